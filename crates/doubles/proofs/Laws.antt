@@ -1,0 +1,11 @@
+-- Laws on the definitions of specs/, from the raw ones of each operation to those that compose.
+pub mod Turn
+pub mod Turned
+pub mod Choice
+pub mod Compare
+pub mod Order
+pub mod Below
+pub mod Zero
+pub mod Exact
+pub mod Signs
+pub mod Steps

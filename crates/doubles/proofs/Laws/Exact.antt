@@ -1,0 +1,134 @@
+-- A value that fits is rounded to itself, so x + 0 is x for an x that fits and is no -0: what a stored zero adds to a sum. Assumes nothing.
+use mathlib.Core.Path.{_≡_, refl, sym, ap, _∙_, subst}
+use Prim.Native.Nat.{ℕ, zero, suc, _+_, _-_, _*_, _%_, _^_, _≤_, _<_, suc-le-suc}
+use native.Mathlib.Nat.{suc-inj, lt-of-not-le, add-zero, sub-zero, zero-mul, lt-irrefl, le-of-eq, lt-of-lt-of-le, lt-of-le-of-lt, mul-one, mul-comm, mul-assoc, mul-left-comm, mul-right-comm, mul-pos, zero-lt-suc, pow-suc, pow-succ', eq-of-mul-eq-mul-right, mul-lt-mul-of-pos-right, lt-of-mul-lt-mul-right}
+use native.Mathlib.Omega.{arith}
+use mathlib.Core.Bool.{Bool, true, false, _&&_}
+use lib.IntN.{ℤ, pos, negsuc}
+use lib.Pow.{pow-add, pow-pos, pow-lt}
+use lib.Dec.{T, leb, ltb, eqb, ltb→lt, leb→le, eqb→eq, leb·suc-zero, leb·suc-suc, leb·zero}
+use lib.Ieee.{Float, nan, inf, fin, Format, prec, emax, low, up, down, unlike, round, sum, add, mul, fits}
+use lib.Ieee.Fits.{up-pos, down-pos, and-l, and-r, round-fits}
+use lib.Ieee.Digits.{back}
+use lib.Ieee.Exact.{HasValue, round-exact}
+use Rattle.doubles.specs.Sign.{negzero, nonzero}
+use Rattle.doubles.proofs.Laws.Turn.{round-zero, zero₂}
+use Rattle.doubles.proofs.Laws.Zero.{zero-is}
+
+-- ---- a number is written in one way
+even-odd : (m t : ℕ) → m % 2 ≡ 1 → m ≡ 2 * t → ⊥
+even-odd m t o h = omega arith
+
+odd-pow : (m n a b : ℕ) → m % 2 ≡ 1 → n % 2 ≡ 1 → m * 2 ^ a ≡ n * 2 ^ b → (m ≡ n) × (a ≡ b)
+odd-pow m n zero zero o p h = (sym (mul-one m) ∙ h ∙ mul-one n, refl)
+odd-pow m n zero (suc b) o p h = absurd (even-odd m (n * 2 ^ b) o (sym (mul-one m) ∙ h ∙ ap (λ (x : ℕ). n * x) (pow-succ' 2 b) ∙ mul-left-comm n 2 (2 ^ b)))
+odd-pow m n (suc a) zero o p h = absurd (even-odd n (m * 2 ^ a) p (sym (mul-one n) ∙ sym h ∙ ap (λ (x : ℕ). m * x) (pow-succ' 2 a) ∙ mul-left-comm m 2 (2 ^ a)))
+odd-pow m n (suc a) (suc b) o p h =
+    let r = odd-pow m n a b o p (eq-of-mul-eq-mul-right 2 (zero-lt-suc 1) (m * 2 ^ a) (n * 2 ^ b)
+    (mul-assoc m (2 ^ a) 2 ∙ ap (λ (x : ℕ). m * x) (sym (pow-suc 2 a)) ∙ h ∙ ap (λ (x : ℕ). n * x) (pow-suc 2 b) ∙ sym (mul-assoc n (2 ^ b) 2))) in
+    (r .0, ap suc (r .1))
+
+no-sum : (a b : ℕ) → a + suc b ≡ 0 → ⊥
+no-sum a b h = omega arith
+
+unique : (m n : ℕ) (e d : ℤ) → m % 2 ≡ 1 → n % 2 ≡ 1 → m * up e * down d ≡ n * up d * down e → (m ≡ n) × (e ≡ d)
+unique m n (pos a) (pos b) o p h = let r = odd-pow m n a b o p (sym (mul-one _) ∙ h ∙ mul-one _) in (r .0, ap pos (r .1))
+unique m n (pos a) (negsuc b) o p h =
+    let r = odd-pow m n (a + suc b) 0 o p (ap (λ (x : ℕ). m * x) (pow-add 2 a (suc b)) ∙ sym (mul-assoc m (2 ^ a) (2 ^ suc b)) ∙ h ∙ mul-one (n * 1)) in
+    absurd (no-sum a b (r .1))
+unique m n (negsuc a) (pos b) o p h =
+    let r = odd-pow m n 0 (b + suc a) o p (sym (mul-one (m * 1)) ∙ h ∙ mul-assoc n (2 ^ b) (2 ^ suc a) ∙ ap (λ (x : ℕ). n * x) (sym (pow-add 2 b (suc a)))) in
+    absurd (no-sum b a (sym (r .1)))
+unique m n (negsuc a) (negsuc b) o p h =
+    let r = odd-pow m n (suc b) (suc a) o p (ap (λ (x : ℕ). x * 2 ^ suc b) (sym (mul-one m)) ∙ h ∙ ap (λ (x : ℕ). x * 2 ^ suc a) (mul-one n)) in
+    (r .0, ap negsuc (sym (suc-inj (r .1))))
+
+-- ---- what `fits` says of a value that is not zero
+pub record Fits (f : Format) (m : ℕ) (e : ℤ) : Type 0 where
+  pub odd : suc m % 2 ≡ 1
+  pub digits : suc m < 2 ^ prec f
+  pub fine : down e ≤ 2 ^ low f
+  pub small : suc m * up e < 2 ^ suc (emax f) * down e
+
+pub says : (f : Format) (s : Bool) (m : ℕ) (e : ℤ) → T (fits f (fin s (suc m) e)) → Fits f m e
+unfolding fits
+says f s m e t =
+    let a : Bool = eqb (suc m % 2) 1 in
+    let b : Bool = ltb (suc m) (2 ^ prec f) in
+    let c : Bool = leb (down e) (2 ^ low f) in
+    let d : Bool = ltb (suc m * up e) (2 ^ suc (emax f) * down e) in
+    let abc : T (a && b && c) = and-l (a && b && c) d t in
+    let ab : T (a && b) = and-l (a && b) c abc in
+    record {
+      odd = eqb→eq (suc m % 2) 1 (and-l a b ab);
+      digits = ltb→lt (suc m) (2 ^ prec f) (and-r a b ab);
+      fine = leb→le (down e) (2 ^ low f) (and-r (a && b) c abc);
+      small = ltb→lt (suc m * up e) (2 ^ suc (emax f) * down e) (and-r (a && b && c) d t);
+    }
+
+-- ---- it is rounded to itself
+-- in units of the smallest value: suc m * 2 ^ j
+shift : Format → ℤ → ℕ
+shift f (pos k) = k + low f
+shift f (negsuc k) = low f - suc k
+
+lower : (f : Format) (k : ℕ) → 2 ^ suc k ≤ 2 ^ low f → suc k ≤ low f
+lower f k h = lt-of-not-le (λ (g : low f ≤ k). lt-irrefl (2 ^ low f) (lt-of-lt-of-le (pow-lt (suc-le-suc g)) h))
+
+in-units : (f : Format) (m : ℕ) (e : ℤ) → down e ≤ 2 ^ low f → m * up e * 2 ^ low f ≡ m * 2 ^ shift f e * down e
+unfolding shift
+in-units f m (pos k) h = mul-assoc m (2 ^ k) (2 ^ low f) ∙ ap (λ (x : ℕ). m * x) (sym (pow-add 2 k (low f))) ∙ sym (mul-one _)
+in-units f m (negsuc k) h =
+    ap (λ (x : ℕ). x * 2 ^ low f) (mul-one m) ∙ ap (λ (x : ℕ). m * 2 ^ x) (sym (back (low f) (suc k) (lower f k h)))
+    ∙ ap (λ (x : ℕ). m * x) (pow-add 2 (low f - suc k) (suc k)) ∙ sym (mul-assoc m (2 ^ (low f - suc k)) (2 ^ suc k))
+
+below-top : (f : Format) (m : ℕ) (e : ℤ) → Fits f m e → suc m * 2 ^ shift f e < 2 ^ (low f + suc (emax f))
+below-top f m e F =
+    let l = 2 ^ low f in
+    lt-of-mul-lt-mul-right (down e)
+    (lt-of-le-of-lt (le-of-eq (sym (in-units f (suc m) e (F .fine))))
+    (lt-of-lt-of-le (mul-lt-mul-of-pos-right (F .small) (pow-pos (low f)))
+    (le-of-eq (mul-right-comm (2 ^ suc (emax f)) (down e) l ∙ ap (λ (x : ℕ). x * down e) (mul-comm (2 ^ suc (emax f)) l ∙ sym (pow-add 2 (low f) (suc (emax f))))))))
+
+same-value : (f : Format) (s : Bool) (m : ℕ) (e : ℤ) → Fits f m e → (z : Float) → T (fits f z) → HasValue z s (suc m * up e) (down e) → z ≡ fin s (suc m) e
+same-value f s m e F nan h v = absurd v
+same-value f s m e F (inf t) h v = absurd v
+same-value f s m e F (fin t zero g) h v = absurd (lt-irrefl 0 (lt-of-lt-of-le (mul-pos (mul-pos (zero-lt-suc m) (up-pos e)) (down-pos g)) (le-of-eq (sym (v .1) ∙ zero₂ (up g) (down e)))))
+same-value f s m e F (fin t (suc n) g) h v =
+    let r = unique (suc n) (suc m) g e (says f t n g h .odd) (F .odd) (v .1) in
+    λ i. fin (v .0 i) (r .0 i) (r .1 i)
+
+pub round-self : (f : Format) (s : Bool) (m : ℕ) (e : ℤ) → T (fits f (fin s (suc m) e)) → round f s (suc m * up e) (down e) ≡ fin s (suc m) e
+round-self f s m e h =
+    let F = says f s m e h in
+    same-value f s m e F (round f s (suc m * up e) (down e)) (round-fits f s (suc m * up e) (down e))
+    (round-exact f s (suc m * up e) (down e) (suc m) (shift f e) (down-pos e) (F .digits) (below-top f m e F) (in-units f (suc m) e (F .fine)))
+
+-- ---- x + 0
+sum-zero : (f : Format) (s : Bool) (a : ℕ) (t : Bool) (b c : ℕ) → 0 < a → b ≡ 0 → sum f s a t b c ≡ round f s a c
+unfolding sum
+sum-zero f s zero t b c p h = absurd (lt-irrefl 0 p)
+sum-zero f true (suc a) true b c p h = rw (h, add-zero (suc a))
+sum-zero f false (suc a) false b c p h = rw (h, add-zero (suc a))
+sum-zero f true (suc a) false b c p h = rw (h, leb·suc-zero (suc a), leb·suc-suc 0 a, leb·zero a, sub-zero (suc a))
+sum-zero f false (suc a) true b c p h = rw (h, leb·suc-zero (suc a), sub-zero (suc a))
+
+from-zero : (f : Format) (t : Bool) (c : ℕ) → sum f false 0 t 0 c ≡ fin false 0 (pos 0)
+unfolding sum
+from-zero f true c = round-zero f false 0 c refl
+from-zero f false c = round-zero f false 0 c refl
+
+pub add-zero-right : (f : Format) (x : Float) (t : Bool) → T (fits f x) → negzero x ≡ false → add f x (fin t 0 (pos 0)) ≡ x
+unfolding add negzero nonzero
+add-zero-right f nan t h z = refl
+add-zero-right f (inf s) t h z = refl
+add-zero-right f (fin s zero e) t h z = subst (λ (x : Float). add f x (fin t 0 (pos 0)) ≡ x) (sym (zero-is f (fin s zero e) h z refl)) (from-zero f t 1)
+add-zero-right f (fin s (suc m) e) t h z =
+    sum-zero f s (suc m * up e * 1) t (0 * 1 * down e) (down e * 1) (mul-pos (mul-pos (zero-lt-suc m) (up-pos e)) (zero-lt-suc 0)) (zero₂ 1 (down e))
+    ∙ ap (λ (x : ℕ). round f s x (down e * 1)) (mul-one (suc m * up e)) ∙ ap (λ (x : ℕ). round f s (suc m * up e) x) (mul-one (down e))
+    ∙ round-self f s m e h
+
+-- a stored zero times a finite number adds nothing to a sum that starts at +0
+pub zero-term : (f : Format) (s : Bool) (t : Bool) (n : ℕ) (d : ℤ) → mul f (fin s 0 (pos 0)) (fin t n d) ≡ fin (unlike s t) 0 (pos 0)
+unfolding mul
+zero-term f s t n d = round-zero f (unlike s t) (0 * 1 * (n * up d)) (1 * down d) (zero-mul (n * up d))

@@ -1,0 +1,15 @@
+// The float leaves: the soft threshold, the elimination and the penalties. Modules as in the Rust: utils, penalties/separable.
+pub mod penalties;
+pub mod utils;
+
+// A refusal: document 01's number and place.
+pub struct Refusal {
+    pub number: u32,
+    pub place: u32,
+}
+
+// What a call that answers a double answers.
+pub enum Number {
+    Refused(Refusal),
+    Is(f64),
+}

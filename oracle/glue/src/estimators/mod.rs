@@ -1,0 +1,1 @@
+//! Glue: the estimators are not published and nothing compiled here uses them.

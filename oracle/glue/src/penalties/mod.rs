@@ -1,0 +1,7 @@
+//! Glue: the module file of the penalties. The published files reach `Float`
+//! through it.
+
+use crate::Float;
+
+pub mod block_separable;
+pub mod separable;

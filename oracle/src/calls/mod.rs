@@ -1,0 +1,26 @@
+//! What the Rust is asked, layer by layer. Each trait is implemented in one
+//! file beside this one, which both variants compile with their own `glm`
+//! (the Rust) and `F` (its numbers).
+
+use crate::leaves::Penalty;
+
+/// Soft threshold, elimination and penalties.
+pub trait Leaves {
+    fn soft(x: f64, threshold: f64) -> f64;
+    fn prox(penalty: &Penalty, value: f64, step: f64) -> f64;
+    fn violation(penalty: &Penalty, weight: f64, gradient: f64) -> f64;
+    fn value(penalty: &Penalty, weights: &[f64]) -> f64;
+
+    /// `rows` holds size + 1 numbers for each row, the right-hand side last.
+    /// None where the Rust calls the system singular.
+    fn solve(size: usize, rows: &[f64]) -> Option<Vec<f64>>;
+}
+
+/// Whole runs; so far only the two that the self check needs.
+pub trait Runs {
+    /// The weights of document 01's 2 by 2 case, from a dense design.
+    fn small_dense(extrapolate: bool) -> Vec<f64>;
+
+    /// The same from a CSC design.
+    fn small_sparse(extrapolate: bool) -> Vec<f64>;
+}

@@ -1,0 +1,53 @@
+//! The self check: values that document 01 names, asked of both variants.
+
+use crate::calls::{Leaves, Runs};
+use crate::leaves::{Kind, Penalty};
+use crate::{loops, published};
+
+fn same(what: &str, found: &[f64], expected: &[f64]) -> Result<(), String> {
+    if found == expected {
+        return Ok(());
+    }
+    Err(format!("check: {what} is {found:?}, not {expected:?}"))
+}
+
+fn check_leaves<V: Leaves>() -> Result<(), String> {
+    let soft = [V::soft(1.0, 1.0), V::soft(-1.0, 1.0), V::soft(1.5, 0.5)];
+    same("soft", &soft, &[0.0, 0.0, 1.0])?;
+
+    let penalty = |kind, second| Penalty {
+        kind,
+        alpha: 1.0,
+        second,
+    };
+    let mcp = penalty(Kind::Mcp, 2.0);
+    let proxes = [1.0, 1.5, 2.0, 2.5, -1.5].map(|value| V::prox(&mcp, value, 1.0));
+    same("MCP prox", &proxes, &[0.0, 1.0, 2.0, 2.5, -1.0])?;
+
+    let both = V::prox(&penalty(Kind::L1PlusL2, 0.5), 2.0, 1.0);
+    same("L1PlusL2 prox", &[both], &[1.0])?;
+
+    let diagonal = V::solve(2, &[2.0, 0.0, 1.0, 0.0, 4.0, 1.0]);
+    same("solution", &diagonal.unwrap_or_default(), &[0.5, 0.25])?;
+    match V::solve(2, &[0.0, 1.0, 1.0, 1.0, 0.0, 1.0]) {
+        None => Ok(()),
+        Some(z) => Err(format!("check: rows (0,1),(1,0) give {z:?}")),
+    }
+}
+
+fn check_runs<V: Runs>() -> Result<(), String> {
+    for extrapolate in [false, true] {
+        same("dense run", &V::small_dense(extrapolate), &[1.0, 0.0])?;
+        same("sparse run", &V::small_sparse(extrapolate), &[1.0, 0.0])?;
+    }
+    Ok(())
+}
+
+pub fn check() -> Result<(), String> {
+    check_leaves::<loops::Rust>()?;
+    check_leaves::<published::Rust>()?;
+    check_runs::<loops::Rust>()?;
+    check_runs::<published::Rust>()?;
+    println!("ok");
+    Ok(())
+}

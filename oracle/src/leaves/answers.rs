@@ -1,0 +1,129 @@
+//! What is answered to the cases. The refusals are document 01's, since the
+//! Rust has none; everything else is asked of the Rust.
+
+use super::{Kind, Leaf, Penalty, SIZES};
+use crate::calls::Leaves;
+use crate::record::{Case, Variant};
+use crate::words::Word;
+use crate::{loops, published};
+
+/// Weights that a public value may be taken over.
+const FEATURES: std::ops::RangeInclusive<usize> = 1..=8192;
+
+const SIZE_REFUSED: u32 = 1;
+const SETTING_REFUSED: u32 = 2;
+
+impl Penalty {
+    /// Comparisons of doubles: a NaN is outside, -0.0 counts as 0.
+    fn in_range(&self) -> bool {
+        let alpha = self.alpha.is_finite() && self.alpha >= 0.0;
+        alpha
+            && match self.kind {
+                Kind::L1 => true,
+                Kind::L1PlusL2 => self.second >= 0.0 && self.second <= 1.0,
+                Kind::Mcp => self.second.is_finite() && self.second > 0.0,
+            }
+    }
+}
+
+type Answers = Vec<(&'static str, Word)>;
+
+fn plain(r: f64) -> Answers {
+    vec![("r", Word::Double(r))]
+}
+
+/// Refusal number and place, which is 0 in every call of this layer.
+fn status(number: u32) -> Answers {
+    vec![("number", Word::Count(number)), ("place", Word::Count(0))]
+}
+
+fn accepted(r: f64) -> Answers {
+    [status(0), plain(r)].concat()
+}
+
+fn refused(number: u32) -> Answers {
+    [status(number), plain(0.0)].concat()
+}
+
+fn violation<V: Leaves>(public: bool, penalty: &Penalty, weight: f64, gradient: f64) -> Answers {
+    if public && !penalty.in_range() {
+        return refused(SETTING_REFUSED);
+    }
+    let r = V::violation(penalty, weight, gradient);
+    if public {
+        accepted(r)
+    } else {
+        plain(r)
+    }
+}
+
+fn value<V: Leaves>(public: bool, penalty: &Penalty, weights: &[f64]) -> Answers {
+    if public && !FEATURES.contains(&weights.len()) {
+        return refused(SIZE_REFUSED);
+    }
+    if public && !penalty.in_range() {
+        return refused(SETTING_REFUSED);
+    }
+    let r = V::value(penalty, weights);
+    if public {
+        accepted(r)
+    } else {
+        plain(r)
+    }
+}
+
+/// All ten places are written; those without a solution are +0.0.
+fn solve<V: Leaves>(size: u32, rows: &[f64]) -> Answers {
+    let taken = SIZES.contains(&size);
+    let solution = taken.then(|| V::solve(size as usize, rows));
+    let singular = matches!(solution, Some(None));
+    let mut z = solution.flatten().unwrap_or_default();
+    z.resize(*SIZES.end() as usize, 0.0);
+
+    let mut answers = status(if taken { 0 } else { SIZE_REFUSED });
+    answers.push(("singular", Word::Count(singular.into())));
+    answers.extend(z.into_iter().map(|entry| ("z", Word::Double(entry))));
+    answers
+}
+
+impl Leaf {
+    fn answers_of<V: Leaves>(&self) -> Answers {
+        match self {
+            Leaf::Soft { x, threshold } => plain(V::soft(*x, *threshold)),
+            Leaf::Prox {
+                penalty,
+                value,
+                step,
+            } => plain(V::prox(penalty, *value, *step)),
+            Leaf::Violation {
+                public,
+                penalty,
+                weight,
+                gradient,
+            } => violation::<V>(*public, penalty, *weight, *gradient),
+            Leaf::Value {
+                public,
+                penalty,
+                weights,
+            } => value::<V>(*public, penalty, weights),
+            Leaf::Solve { size, rows } => solve::<V>(*size, rows),
+        }
+    }
+}
+
+impl Case for Leaf {
+    fn code(&self) -> u32 {
+        self.record_code()
+    }
+
+    fn inputs(&self) -> Vec<Word> {
+        self.input_words()
+    }
+
+    fn answers(&self, variant: Variant) -> Answers {
+        match variant {
+            Variant::Loops => self.answers_of::<loops::Rust>(),
+            Variant::Published => self.answers_of::<published::Rust>(),
+        }
+    }
+}

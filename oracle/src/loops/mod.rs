@@ -1,0 +1,12 @@
+//! The Rust with a stable sort and with sums that start at +0.0.
+
+use crate::float::Loops as F;
+use sparseglm_loops as glm;
+
+/// Stands for this variant where a call is generic over the two.
+pub struct Rust;
+
+#[path = "../calls/leaves.rs"]
+mod leaves;
+#[path = "../calls/runs.rs"]
+mod runs;

@@ -1,0 +1,15 @@
+//! The Rust as it is published, on plain doubles.
+
+// The shared files convert numbers because the other variant must.
+#![allow(clippy::useless_conversion)]
+
+use sparseglm_published as glm;
+use std::primitive::f64 as F;
+
+/// Stands for this variant where a call is generic over the two.
+pub struct Rust;
+
+#[path = "../calls/leaves.rs"]
+mod leaves;
+#[path = "../calls/runs.rs"]
+mod runs;

@@ -1,0 +1,3 @@
+//! Stand-in: passes the derive on under the name that the published files use.
+
+pub use thiserror_derive::Error;
