@@ -5,7 +5,7 @@ pub mod utils;
 // A refusal: document 01's number and place.
 pub struct Refusal {
     pub number: u32,
-    pub place: u32,
+    pub place: usize,
 }
 
 // What a call that answers a double answers.

@@ -1,0 +1,234 @@
+// One record: a code, the inputs of a call and the answers that the oracle had. The first `n` of the words are the record.
+ghost use mathlib.Core.Path.{_≡_};
+ghost use Prim.Native.Nat.{_+_, _≤_};
+ghost use lib.ListN.{length, take};
+use leaves::Number;
+use leaves::penalties::inner;
+use leaves::penalties::separable;
+use leaves::penalties::separable::Penalty;
+use leaves::utils::helpers;
+use leaves::utils::helpers::Ending;
+use leaves::utils::helpers::Solution;
+use leaves::utils::prox_funcs::soft_thresholding;
+use vectors::double;
+use vectors::same;
+
+// The longest record, of a system of ten, has 125 words.
+pub type Words = [u64; 128];
+
+pub enum Verdict {
+    Same,
+    Differs,
+    // No record: an unknown code or kind, or not the code's number of words.
+    Bad,
+}
+
+pub fn replay(words: &Words, n: usize) -> Verdict {
+    let code = words[0];
+    match code {
+        1 => soft(words, n),
+        2 => prox(words, n),
+        3 => distance(words, n),
+        4 => value(words, n),
+        5 => solve(words, n),
+        6 => inner_violation(words, n),
+        7 => inner_value(words, n),
+        _ => Verdict::Bad,
+    }
+}
+
+fn judge(is_same: bool) -> Verdict {
+    if is_same {
+        Verdict::Same
+    } else {
+        Verdict::Differs
+    }
+}
+
+// Whether a call answered a number, the refusal's number and place being 0, or refused, the answer then being +0.
+fn same_number(answer: Number, number: u64, place: u64, r: u64) -> bool {
+    match answer {
+        Number::Refused(f) => f.number as u64 == number && f.place as u64 == place && r == 0,
+        Number::Is(x) => number == 0 && place == 0 && same(x, double(r)),
+    }
+}
+
+// The penalty of words 1 to 3. Whoever calls it has seen that the kind is known.
+fn penalty(words: &Words) -> Penalty {
+    let alpha = double(words[2]);
+    let second = double(words[3]);
+    let kind = words[1];
+    match kind {
+        0 => Penalty::L1 { alpha: alpha },
+        1 => Penalty::L1PlusL2 {
+            alpha: alpha,
+            l1_ratio: second,
+        },
+        _ => Penalty::MCP {
+            alpha: alpha,
+            gamma: second,
+        },
+    }
+}
+
+fn soft(words: &Words, n: usize) -> Verdict {
+    if n != 4 {
+        return Verdict::Bad;
+    }
+    let r = soft_thresholding(double(words[1]), double(words[2]));
+    judge(same(r, double(words[3])))
+}
+
+fn prox(words: &Words, n: usize) -> Verdict {
+    if n != 7 || 2 < words[1] {
+        return Verdict::Bad;
+    }
+    let r = separable::prox(penalty(words), double(words[4]), double(words[5]));
+    judge(same(r, double(words[6])))
+}
+
+fn distance(words: &Words, n: usize) -> Verdict {
+    if n != 9 || 2 < words[1] {
+        return Verdict::Bad;
+    }
+    let r = separable::subdiff_distance(penalty(words), double(words[4]), double(words[5]));
+    judge(same_number(r, words[6], words[7], words[8]))
+}
+
+fn inner_violation(words: &Words, n: usize) -> Verdict {
+    if n != 7 || 2 < words[1] {
+        return Verdict::Bad;
+    }
+    let r = inner::violation(penalty(words), double(words[4]), double(words[5]));
+    judge(same(r, double(words[6])))
+}
+
+// ---- records with a list of weights
+
+// The weights, from word 5 on, and 0 behind them. That the first `count` are `count` many is said for `&w[..count]`.
+fn weights(words: &Words, count: usize) -> [f64; 64]
+    requires { ⌜ count ≤ 64 ⌝ }
+    ensures { λ r. ⌜ (64 ≡ length r) × (count ≡ length (take count r)) ⌝ }
+{
+    let mut w = [0.0; 64];
+    let mut i: usize = 0;
+    while i < count {
+        w[i] = double(words[i + 5]);
+        i += 1;
+    }
+    w
+}
+
+fn value(words: &Words, n: usize) -> Verdict {
+    if 64 < words[4] || 2 < words[1] {
+        return Verdict::Bad;
+    }
+    let count = words[4] as usize;
+    if n != count + 8 {
+        return Verdict::Bad;
+    }
+    let w = weights(words, count);
+    let r = separable::value(penalty(words), &w[..count]);
+    judge(same_number(r, words[count + 5], words[count + 6], words[count + 7]))
+}
+
+fn inner_value(words: &Words, n: usize) -> Verdict {
+    if 64 < words[4] || 2 < words[1] {
+        return Verdict::Bad;
+    }
+    let count = words[4] as usize;
+    if n != count + 6 {
+        return Verdict::Bad;
+    }
+    let w = weights(words, count);
+    let r = inner::value(penalty(words), &w[..count]);
+    judge(same(r, double(words[count + 5])))
+}
+
+// ---- systems
+
+// The `count` doubles from word `at` on, and NaN behind them: the elimination must not look there.
+fn row(words: &Words, at: usize, count: usize) -> [f64; 11]
+    requires { ⌜ (count ≤ 11) × (at + count ≤ 128) ⌝ }
+{
+    let mut r = [0.0 / 0.0; 11];
+    let mut k: usize = 0;
+    while k < count {
+        r[k] = double(words[at + k]);
+        k += 1;
+    }
+    r
+}
+
+fn system(words: &Words, size: usize) -> [[f64; 11]; 10]
+    requires { ⌜ size ≤ 10 ⌝ }
+{
+    let none = [0.0 / 0.0; 11];
+    let mut m = [none; 10];
+    let mut at: usize = 2;
+    let mut i: usize = 0;
+    while i < size {
+        let next = row(words, at, size + 1);
+        m[i] = next;
+        at += size + 1;
+        i += 1;
+    }
+    m
+}
+
+fn same_places(z: [f64; 10], words: &Words, at: usize) -> bool
+    requires { ⌜ at + 10 ≤ 128 ⌝ }
+{
+    let mut i: usize = 0;
+    while i < 10 {
+        if !same(z[i], double(words[at + i])) {
+            return false;
+        }
+        i += 1;
+    }
+    true
+}
+
+// The answers from word `at` on: number, place, singular and the ten places.
+fn same_solution(s: Solution, words: &Words, at: usize) -> bool
+    requires { ⌜ at + 13 ≤ 128 ⌝ }
+{
+    let number = words[at];
+    let place = words[at + 1];
+    let singular = words[at + 2];
+    let ending = s.ending;
+    let ended = match ending {
+        Ending::Refused(f) => f.number as u64 == number && f.place as u64 == place && singular == 0,
+        Ending::Singular => number == 0 && place == 0 && singular == 1,
+        Ending::Solved => number == 0 && place == 0 && singular == 0,
+    };
+    let z = s.z;
+    ended && same_places(z, words, at + 3)
+}
+
+// How many rows a record has. A size outside 1 to 10 comes with none.
+fn rows_of(size: usize) -> usize
+    ensures { λ r. ⌜ r ≤ 10 ⌝ }
+{
+    if 10 < size { 0 } else { size }
+}
+
+// The word at which the answers begin, behind the code, the size and the rows.
+fn answers_at(rows: usize) -> usize
+    requires { ⌜ rows ≤ 10 ⌝ }
+    ensures { λ r. ⌜ r ≤ 112 ⌝ }
+{
+    rows * (rows + 1) + 2
+}
+
+// The size is passed on as it is, also where it is refused.
+fn solve(words: &Words, n: usize) -> Verdict {
+    let size = words[1] as usize;
+    let rows = rows_of(size);
+    let at = answers_at(rows);
+    if n != at + 13 {
+        return Verdict::Bad;
+    }
+    let s = helpers::solve_lin_sys(system(words, rows), size);
+    judge(same_solution(s, words, at))
+}
