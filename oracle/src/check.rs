@@ -1,6 +1,7 @@
 //! The self check: values that document 01 names, asked of both variants.
 
-use crate::calls::{Leaves, Runs};
+use crate::calls::{Designs, Leaves, Runs};
+use crate::designs::Design;
 use crate::leaves::{Kind, Penalty};
 use crate::{loops, published};
 
@@ -35,6 +36,26 @@ fn check_leaves<V: Leaves>() -> Result<(), String> {
     }
 }
 
+/// The numbers of the 2 by 2 case, worked out by hand.
+fn check_designs<V: Designs>() -> Result<(), String> {
+    same("datafit", &[V::value(&[3.0, 1.0], &[2.0, 0.0])], &[0.5])?;
+
+    let dense = Design::dense(2, 2, vec![2.0, 0.0, 0.0, 2.0]);
+    let csc = Design::csc(2, vec![0, 1, 2], vec![0, 1], vec![2.0, 2.0]);
+    for design in [dense, csc] {
+        let (constants, products) = V::initialize(&design, &[3.0, 1.0]);
+        same("constants", &constants, &[2.0, 2.0])?;
+        same("X'y", &products, &[6.0, 2.0])?;
+        let gradient = V::full_gradient(&design, &products, &[2.0, 0.0]);
+        same("gradient", &gradient, &[-1.0, -1.0])?;
+        let fit = V::updated_fit(&design, &[0.0, 0.0], 1.0, 0);
+        same("fit", &fit, &[2.0, 0.0])?;
+        let alpha_max = V::alpha_max(&design, &[3.0, 1.0]);
+        same("alpha_max", &[alpha_max], &[3.0])?;
+    }
+    Ok(())
+}
+
 fn check_runs<V: Runs>() -> Result<(), String> {
     for extrapolate in [false, true] {
         same("dense run", &V::small_dense(extrapolate), &[1.0, 0.0])?;
@@ -46,6 +67,8 @@ fn check_runs<V: Runs>() -> Result<(), String> {
 pub fn check() -> Result<(), String> {
     check_leaves::<loops::Rust>()?;
     check_leaves::<published::Rust>()?;
+    check_designs::<loops::Rust>()?;
+    check_designs::<published::Rust>()?;
     check_runs::<loops::Rust>()?;
     check_runs::<published::Rust>()?;
     println!("ok");

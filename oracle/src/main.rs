@@ -6,8 +6,10 @@
 mod ask;
 mod calls;
 mod check;
+mod designs;
 mod float;
 mod leaves;
+mod list;
 mod loops;
 mod published;
 mod random;
@@ -16,7 +18,8 @@ mod words;
 
 use std::process::ExitCode;
 
-const USAGE: &str = "usage: oracle ask WORD.. | oracle answer | oracle list leaves SEED COUNT";
+const USAGE: &str =
+    "usage: oracle ask WORD.. | oracle answer | oracle list leaves|designs SEED COUNT";
 
 fn list(words: &[&str]) -> Result<(), String> {
     let decimal = |word: &str| {
@@ -24,7 +27,8 @@ fn list(words: &[&str]) -> Result<(), String> {
         number.map_err(|_| format!("list: {word:?} is not a decimal number"))
     };
     match words {
-        ["leaves", seed, count] => leaves::write_list(decimal(seed)?, decimal(count)?),
+        ["leaves", seed, count] => leaves::LIST.write(decimal(seed)?, decimal(count)?),
+        ["designs", seed, count] => designs::LIST.write(decimal(seed)?, decimal(count)?),
         _ => Err(USAGE.into()),
     }
 }

@@ -38,12 +38,17 @@ impl Random {
         }
     }
 
-    /// Any sign, exponent -8 to 8, any digits.
-    pub fn moderate(&mut self) -> f64 {
+    /// Any sign, an exponent between these two, any digits.
+    pub fn scaled(&mut self, lowest: i32, highest: i32) -> f64 {
         let digits = self.next() >> 12;
-        let exponent = 1023 - 8 + self.below(17) as u64;
+        let exponent = (1023 + lowest) as u64 + self.below((highest - lowest + 1) as usize) as u64;
         let size = f64::from_bits(exponent << 52 | digits);
         self.signed(size)
+    }
+
+    /// Any sign, exponent -8 to 8, any digits.
+    pub fn moderate(&mut self) -> f64 {
+        self.scaled(-8, 8)
     }
 
     /// Any bit pattern.

@@ -1,5 +1,6 @@
 //! Records: a case with its answers, and the comparison of the two variants.
 
+use crate::designs::DesignCase;
 use crate::leaves::Leaf;
 use crate::words::{line, Reader, Word};
 use std::io::{self, Write};
@@ -10,13 +11,22 @@ pub enum Variant {
     Published,
 }
 
+/// Names and words of the answers, in the order of the record.
+pub type Answers = Vec<(&'static str, Word)>;
+
+/// Refusal number and place; both are 0 where there is an answer.
+pub fn status(number: u32, place: u32) -> Answers {
+    vec![
+        ("number", Word::Count(number)),
+        ("place", Word::Count(place)),
+    ]
+}
+
 /// What the cases of every layer can do.
 pub trait Case {
     fn code(&self) -> u32;
     fn inputs(&self) -> Vec<Word>;
-
-    /// Names and words of the answers, in the order of the record.
-    fn answers(&self, variant: Variant) -> Vec<(&'static str, Word)>;
+    fn answers(&self, variant: Variant) -> Answers;
 }
 
 /// Reads a record without its answers. A further layer gets its codes here.
@@ -24,6 +34,7 @@ pub fn read_case(text: &str) -> Result<Box<dyn Case>, String> {
     let mut reader = Reader::new(text);
     let case: Box<dyn Case> = match reader.count()? {
         code @ 1..=7 => Box::new(Leaf::read(code, &mut reader)?),
+        code @ 0x10..=0x17 => Box::new(DesignCase::read(code, &mut reader)?),
         code => return Err(format!("code {code:x} is unknown")),
     };
     reader.end()?;
@@ -51,6 +62,16 @@ impl Record {
 
     pub fn differs(&self) -> bool {
         self.loops != self.published
+    }
+
+    /// The words of the answers.
+    pub fn answers(&self) -> &[Word] {
+        &self.loops
+    }
+
+    /// How many words the record has.
+    pub fn length(&self) -> usize {
+        self.question.len() + self.loops.len()
     }
 
     /// The record as it stands in a list.

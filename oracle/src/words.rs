@@ -50,6 +50,18 @@ pub fn doubles(numbers: &[f64]) -> Vec<Word> {
     numbers.iter().map(|&x| Word::Double(x)).collect()
 }
 
+/// How many numbers there are, then the numbers.
+pub fn counted(numbers: &[f64]) -> Vec<Word> {
+    [vec![Word::Count(numbers.len() as u32)], doubles(numbers)].concat()
+}
+
+/// How many indices there are, then the indices.
+pub fn counted_indices(indices: &[u32]) -> Vec<Word> {
+    let count = Word::Count(indices.len() as u32);
+    let indices = indices.iter().map(|&index| Word::Count(index));
+    [count].into_iter().chain(indices).collect()
+}
+
 pub fn line(words: &[Word]) -> String {
     let words: Vec<String> = words.iter().map(Word::to_string).collect();
     words.join(" ")
@@ -87,6 +99,16 @@ impl<'a> Reader<'a> {
 
     pub fn doubles(&mut self, count: u32) -> Result<Vec<f64>, String> {
         (0..count).map(|_| self.double()).collect()
+    }
+
+    pub fn counted(&mut self) -> Result<Vec<f64>, String> {
+        let count = self.count()?;
+        self.doubles(count)
+    }
+
+    pub fn counted_indices(&mut self) -> Result<Vec<u32>, String> {
+        let count = self.count()?;
+        (0..count).map(|_| self.count()).collect()
     }
 
     pub fn end(&mut self) -> Result<(), String> {

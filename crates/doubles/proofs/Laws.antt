@@ -9,3 +9,4 @@ pub mod Zero
 pub mod Exact
 pub mod Signs
 pub mod Steps
+pub mod Buffer

@@ -17,7 +17,7 @@ use Rattle.leaves.proofs.penalties.separable.prox.Reads as prox-reads
 use Rattle.leaves.proofs.penalties.separable.subdiff_distance.Reads as distance-reads
 
 -- ---- a reading loses nothing
-same-refusal : {a b : Refusal} → a .number ≡ b .number → a .place ≡ b .place → a ≡ b
+pub same-refusal : {a b : Refusal} → a .number ≡ b .number → a .place ≡ b .place → a ≡ b
 same-refusal p q = λ i. record { number = p i; place = q i }
 
 one-refusal : {A : Type 0} (a b : Refusal) → _≡_ {A = Outcome A} (refused (a .number) (a .place)) (refused (b .number) (b .place)) → a ≡ b

@@ -2,7 +2,6 @@
 ghost use mathlib.Core.Path.{_≡_};
 ghost use Prim.Native.Nat.{_+_, _≤_};
 ghost use lib.ListN.{length, take};
-use leaves::Number;
 use leaves::penalties::inner;
 use leaves::penalties::separable;
 use leaves::penalties::separable::Penalty;
@@ -10,18 +9,15 @@ use leaves::utils::helpers;
 use leaves::utils::helpers::Ending;
 use leaves::utils::helpers::Solution;
 use leaves::utils::prox_funcs::soft_thresholding;
+use vectors::answers::same_number;
+use vectors::answers::same_refusal;
 use vectors::double;
+use vectors::progress::Verdict;
+use vectors::progress::judge;
 use vectors::same;
 
 // The longest record, of a system of ten, has 125 words.
 pub type Words = [u64; 128];
-
-pub enum Verdict {
-    Same,
-    Differs,
-    // No record: an unknown code or kind, or not the code's number of words.
-    Bad,
-}
 
 pub fn replay(words: &Words, n: usize) -> Verdict {
     let code = words[0];
@@ -34,22 +30,6 @@ pub fn replay(words: &Words, n: usize) -> Verdict {
         6 => inner_violation(words, n),
         7 => inner_value(words, n),
         _ => Verdict::Bad,
-    }
-}
-
-fn judge(is_same: bool) -> Verdict {
-    if is_same {
-        Verdict::Same
-    } else {
-        Verdict::Differs
-    }
-}
-
-// Whether a call answered a number, the refusal's number and place being 0, or refused, the answer then being +0.
-fn same_number(answer: Number, number: u64, place: u64, r: u64) -> bool {
-    match answer {
-        Number::Refused(f) => f.number as u64 == number && f.place as u64 == place && r == 0,
-        Number::Is(x) => number == 0 && place == 0 && same(x, double(r)),
     }
 }
 
@@ -198,7 +178,7 @@ fn same_solution(s: Solution, words: &Words, at: usize) -> bool
     let singular = words[at + 2];
     let ending = s.ending;
     let ended = match ending {
-        Ending::Refused(f) => f.number as u64 == number && f.place as u64 == place && singular == 0,
+        Ending::Refused(f) => same_refusal(f, number, place) && singular == 0,
         Ending::Singular => number == 0 && place == 0 && singular == 1,
         Ending::Solved => number == 0 && place == 0 && singular == 0,
     };

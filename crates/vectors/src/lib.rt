@@ -7,6 +7,9 @@ ghost use lib.ListN.{length};
 ghost use lib.Ieee.{binary64, ofBits};
 ghost use Rattle.vectors.specs.Count.{countOf};
 
+pub mod answers;
+pub mod progress;
+
 // The double with these bits. A NaN's pattern lies above infinity's, the sign aside, and `from_bits` is undefined there.
 pub fn double(word: u64) -> f64
     ensures { λ r. ⌜ r ≡ ofBits binary64 word ⌝ }

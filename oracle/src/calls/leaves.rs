@@ -2,14 +2,11 @@
 
 use super::glm::penalties::separable::{L1PlusL2, Penalty as PenaltyCalls, L1, MCP};
 use super::glm::utils::{helpers::solve_lin_sys, prox_funcs::soft_thresholding};
+use super::numbers::array;
 use super::{Rust, F};
 use crate::calls::Leaves;
 use crate::leaves::{Kind, Penalty};
 use ndarray::{Array1, Array2};
-
-fn numbers(doubles: &[f64]) -> Array1<F> {
-    Array1::from_iter(doubles.iter().map(|&x| F::from(x)))
-}
 
 fn build(penalty: &Penalty) -> Box<dyn PenaltyCalls<F>> {
     let (alpha, second) = (F::from(penalty.alpha), F::from(penalty.second));
@@ -30,7 +27,7 @@ impl Leaves for Rust {
     }
 
     fn violation(penalty: &Penalty, weight: f64, gradient: f64) -> f64 {
-        let (weight, gradient) = (numbers(&[weight]), numbers(&[gradient]));
+        let (weight, gradient) = (array(&[weight]), array(&[gradient]));
         let set = Array1::from_vec(vec![0]);
         // The distance, not the largest: the fold would drop a NaN.
         let (distances, _) =
@@ -39,7 +36,7 @@ impl Leaves for Rust {
     }
 
     fn value(penalty: &Penalty, weights: &[f64]) -> f64 {
-        build(penalty).value(numbers(weights).view()).into()
+        build(penalty).value(array(weights).view()).into()
     }
 
     fn solve(size: usize, rows: &[f64]) -> Option<Vec<f64>> {

@@ -2,6 +2,7 @@
 //! file beside this one, which both variants compile with their own `glm`
 //! (the Rust) and `F` (its numbers).
 
+use crate::designs::Design;
 use crate::leaves::Penalty;
 
 /// Soft threshold, elimination and penalties.
@@ -14,6 +15,23 @@ pub trait Leaves {
     /// `rows` holds size + 1 numbers for each row, the right-hand side last.
     /// None where the Rust calls the system singular.
     fn solve(size: usize, rows: &[f64]) -> Option<Vec<f64>>;
+}
+
+/// Designs and the quadratic datafit. Nothing that is asked here is refused, and
+/// lent buffers are cut to their room.
+pub trait Designs {
+    /// The Lipschitz constants and X'y.
+    fn initialize(design: &Design, targets: &[f64]) -> (Vec<f64>, Vec<f64>);
+
+    /// `products` is X'y, here and in the full gradient.
+    fn gradient(design: &Design, products: &[f64], fit: &[f64], feature: usize) -> f64;
+    fn full_gradient(design: &Design, products: &[f64], fit: &[f64]) -> Vec<f64>;
+    fn value(targets: &[f64], fit: &[f64]) -> f64;
+    fn updated_fit(design: &Design, fit: &[f64], difference: f64, feature: usize) -> Vec<f64>;
+    fn extrapolated_fit(design: &Design, set: &[u32], weights: &[f64]) -> Vec<f64>;
+
+    /// The Rust's, which drops a NaN.
+    fn alpha_max(design: &Design, targets: &[f64]) -> f64;
 }
 
 /// Whole runs; so far only the two that the self check needs.

@@ -4,13 +4,10 @@ use super::glm::datafits::single_task::{Datafit, Quadratic};
 use super::glm::datasets::{csc_array::CSCArray, DatasetBase, DesignMatrix};
 use super::glm::penalties::separable::L1;
 use super::glm::solvers::anderson_cd::coordinate_descent;
+use super::numbers::{array, doubles, numbers};
 use super::{Rust, F};
 use crate::calls::Runs;
 use ndarray::{Array1, Array2, ArrayView1};
-
-fn numbers(doubles: &[f64]) -> Vec<F> {
-    doubles.iter().map(|&x| F::from(x)).collect()
-}
 
 /// Targets 3 and 1, alpha 1, tolerance 0, 5 iterations, 20 epochs. The Rust
 /// wants at least K features in the working set, so extrapolating starts at 2.
@@ -19,7 +16,7 @@ where
     DM: DesignMatrix<Elem = F>,
     Quadratic<F>: Datafit<F, DM, Array1<F>>,
 {
-    let dataset = DatasetBase::new(design, Array1::from_vec(numbers(&[3.0, 1.0])));
+    let dataset = DatasetBase::new(design, array(&[3.0, 1.0]));
     let (start, depth) = if extrapolate { (2, 2) } else { (1, 5) };
     let weights = coordinate_descent(
         &dataset,
@@ -33,7 +30,7 @@ where
         extrapolate,
         false,
     );
-    weights.into_iter().map(f64::from).collect()
+    doubles(weights.view())
 }
 
 impl Runs for Rust {

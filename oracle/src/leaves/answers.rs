@@ -3,7 +3,7 @@
 
 use super::{Kind, Leaf, Penalty, SIZES};
 use crate::calls::Leaves;
-use crate::record::{Case, Variant};
+use crate::record::{status, Answers, Case, Variant};
 use crate::words::Word;
 use crate::{loops, published};
 
@@ -26,23 +26,17 @@ impl Penalty {
     }
 }
 
-type Answers = Vec<(&'static str, Word)>;
-
 fn plain(r: f64) -> Answers {
     vec![("r", Word::Double(r))]
 }
 
-/// Refusal number and place, which is 0 in every call of this layer.
-fn status(number: u32) -> Answers {
-    vec![("number", Word::Count(number)), ("place", Word::Count(0))]
-}
-
 fn accepted(r: f64) -> Answers {
-    [status(0), plain(r)].concat()
+    [status(0, 0), plain(r)].concat()
 }
 
+/// The place is 0 in every call of this layer.
 fn refused(number: u32) -> Answers {
-    [status(number), plain(0.0)].concat()
+    [status(number, 0), plain(0.0)].concat()
 }
 
 fn violation<V: Leaves>(public: bool, penalty: &Penalty, weight: f64, gradient: f64) -> Answers {
@@ -80,7 +74,7 @@ fn solve<V: Leaves>(size: u32, rows: &[f64]) -> Answers {
     let mut z = solution.flatten().unwrap_or_default();
     z.resize(*SIZES.end() as usize, 0.0);
 
-    let mut answers = status(if taken { 0 } else { SIZE_REFUSED });
+    let mut answers = status(if taken { 0 } else { SIZE_REFUSED }, 0);
     answers.push(("singular", Word::Count(singular.into())));
     answers.extend(z.into_iter().map(|entry| ("z", Word::Double(entry))));
     answers

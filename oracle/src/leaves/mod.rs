@@ -6,9 +6,9 @@ mod cases;
 mod list;
 mod systems;
 
-pub use list::write_list;
+pub use list::LIST;
 
-use crate::words::{doubles, Reader, Word};
+use crate::words::{counted, doubles, Reader, Word};
 
 #[derive(Clone, Copy, Debug, PartialEq)]
 pub enum Kind {
@@ -112,10 +112,7 @@ impl Leaf {
             } => [penalty.words(), doubles(&[*weight, *gradient])].concat(),
             Leaf::Value {
                 penalty, weights, ..
-            } => {
-                let count = Word::Count(weights.len() as u32);
-                [penalty.words(), vec![count], doubles(weights)].concat()
-            }
+            } => [penalty.words(), counted(weights)].concat(),
             Leaf::Solve { size, rows } => [vec![Word::Count(*size)], doubles(rows)].concat(),
         }
     }

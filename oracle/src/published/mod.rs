@@ -9,7 +9,11 @@ use std::primitive::f64 as F;
 /// Stands for this variant where a call is generic over the two.
 pub struct Rust;
 
+#[path = "../calls/designs.rs"]
+mod designs;
 #[path = "../calls/leaves.rs"]
 mod leaves;
+#[path = "../calls/numbers.rs"]
+mod numbers;
 #[path = "../calls/runs.rs"]
 mod runs;

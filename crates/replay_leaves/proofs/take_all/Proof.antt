@@ -10,8 +10,8 @@ Inv-loop fd path words₀ p₀ turns₀ words p turns = Unit {0}
 abbrev μ-loop : tie.MeasureT-loop
 μ-loop fd path words₀ p₀ turns₀ words p turns = turns
 
-start-requires : tie.Need-start-requires Inv-loop μ-loop
-start-requires c κs = search needs
+begin-requires : tie.Need-begin-requires Inv-loop μ-loop
+begin-requires c κs = search needs
 
 loop-holds : tie.Need-loop-holds Inv-loop μ-loop
 loop-holds c = search needs
@@ -40,7 +40,7 @@ take-all-spec =
     (tie.spec
     Inv-loop
     μ-loop
-    start-requires
+    begin-requires
     loop-holds
     take-some-requires
     sub-turns

@@ -1,0 +1,252 @@
+// Inner functions over single columns of a design in either layout. The caller has tested the design, so nothing is tested here and nothing
+// is exported. A column operation touches the column's stored entries and nothing of size n or p besides.
+ghost use mathlib.Core.Path.{_≡_};
+ghost use Prim.Native.Nat.{ℕ, _+_, _*_, _<_, _≤_};
+ghost use lib.ListN.{length, getD};
+ghost use Rattle.doubles.specs.Num.{#0, at};
+ghost use Rattle.doubles.specs.Steps.{tab};
+ghost use Rattle.designs.specs.Design as def;
+ghost use Rattle.designs.specs.Sound.{Sound, Whole};
+ghost use Rattle.columns.specs.RowFit.{rowFit};
+use designs::Feature;
+use designs::Layout;
+use designs::Sample;
+use designs::Shape;
+
+// The sample of a stored entry.
+fn sample_of(rows: &[u32], e: usize) -> Sample
+    requires { ⌜ e < length (now rows) ⌝ }
+    ensures { λ r. ⌜ r .0 ≡ getD (now (rows .entry)) e 0 ⌝ }
+{
+    Sample(rows[e] as usize)
+}
+
+// What v, which has a place for each sample, holds for one.
+pub fn reading(v: &[f64], sample: Sample) -> f64
+    requires { ⌜ sample .0 < length (now v) ⌝ }
+    ensures { λ r. ⌜ r ≡ at (now (v .entry)) (sample .0) ⌝ }
+{
+    let i = sample.0;
+    v[i]
+}
+
+// ---- column · v
+
+fn dense_dot(shape: Shape, values: &[f64], feature: Feature, v: &[f64]) -> f64
+    requires { ⌜ (feature .0 < shape .p) × (shape .n * shape .p ≤ length (now values)) × (shape .n ≤ length (now v)) ⌝ }
+    ensures { λ r. ⌜ r ≡ def.dot (def.dense (shape .n) (shape .p) (now (values .entry))) (feature .0) (now (v .entry)) ⌝ }
+{
+    let n = shape.n;
+    let p = shape.p;
+    let j = feature.0;
+    let mut s = 0.0;
+    let mut i = 0;
+    while i < n {
+        s = s + values[i * p + j] * v[i];
+        i += 1;
+    }
+    s
+}
+
+fn csc_dot(
+    shape: Shape,
+    starts: &[u32],
+    rows: &[u32],
+    values: &[f64],
+    feature: Feature,
+    v: &[f64],
+) -> f64
+    requires { ⌜ (feature .0 < shape .p) × Sound (shape .n) (shape .p) (now starts) (now rows) (now values) × (shape .n ≤ length (now v)) ⌝ }
+    ensures { λ r. ⌜ r ≡ def.dot (def.csc (shape .n) (shape .p) (now (starts .entry)) (now (rows .entry)) (now (values .entry))) (feature .0) (now (v .entry)) ⌝ }
+{
+    let j = feature.0;
+    let start = starts[j] as usize;
+    let end = starts[j + 1] as usize;
+    let many = end - start;
+    let mut s = 0.0;
+    let mut k = 0;
+    while k < many {
+        let e = start + k;
+        let sample = sample_of(rows, e);
+        s = s + values[e] * reading(v, sample);
+        k += 1;
+    }
+    s
+}
+
+// The product of a column and v, in either layout.
+pub fn column_dot(
+    shape: Shape,
+    starts: &[u32],
+    rows: &[u32],
+    values: &[f64],
+    feature: Feature,
+    v: &[f64],
+) -> f64
+    requires { ⌜ (feature .0 < shape .p) × Whole shape (now starts) (now rows) (now values) × (shape .n ≤ length (now v)) ⌝ }
+    ensures { λ r. ⌜ r ≡ def.dot (def.design shape (now (starts .entry)) (now (rows .entry)) (now (values .entry))) (feature .0) (now (v .entry)) ⌝ }
+{
+    let layout = shape.layout;
+    match layout {
+        Layout::Dense => dense_dot(shape, values, feature, v),
+        Layout::Csc => csc_dot(shape, starts, rows, values, feature, v),
+    }
+}
+
+// ---- the fit gains d · column
+
+fn dense_update(shape: Shape, values: &[f64], feature: Feature, d: f64, fit: &mut [f64])
+    requires { ⌜ (feature .0 < shape .p) × (shape .n * shape .p ≤ length (now values)) × (shape .n ≤ length (now fit)) ⌝ }
+    ensures { λ _. ⌜ now (fit .exit) ≡ def.moved (def.dense (shape .n) (shape .p) (now (values .entry))) (feature .0) d (now (fit .entry)) ⌝ }
+{
+    let samples = shape.n;
+    let p = shape.p;
+    let j = feature.0;
+    let mut i = 0;
+    while i < samples {
+        fit[i] = fit[i] + d * values[i * p + j];
+        i += 1;
+    }
+}
+
+fn csc_update(
+    shape: Shape,
+    starts: &[u32],
+    rows: &[u32],
+    values: &[f64],
+    feature: Feature,
+    d: f64,
+    fit: &mut [f64],
+)
+    requires { ⌜ (feature .0 < shape .p) × Sound (shape .n) (shape .p) (now starts) (now rows) (now values) × (shape .n ≤ length (now fit)) ⌝ }
+    ensures { λ _. ⌜ now (fit .exit) ≡ def.moved (def.csc (shape .n) (shape .p) (now (starts .entry)) (now (rows .entry)) (now (values .entry))) (feature .0) d (now (fit .entry)) ⌝ }
+{
+    let j = feature.0;
+    let start = starts[j] as usize;
+    let end = starts[j + 1] as usize;
+    let count = end - start;
+    let mut k: usize = 0;
+    while k < count {
+        let e = start + k;
+        let i = sample_of(rows, e).0;
+        fit[i] = fit[i] + d * values[e];
+        k += 1;
+    }
+}
+
+// The fit gains d times a column, in either layout.
+pub fn column_update(
+    shape: Shape,
+    starts: &[u32],
+    rows: &[u32],
+    values: &[f64],
+    feature: Feature,
+    d: f64,
+    fit: &mut [f64],
+)
+    requires { ⌜ (feature .0 < shape .p) × Whole shape (now starts) (now rows) (now values) × (shape .n ≤ length (now fit)) ⌝ }
+    ensures { λ _. ⌜ now (fit .exit) ≡ def.moved (def.design shape (now (starts .entry)) (now (rows .entry)) (now (values .entry))) (feature .0) d (now (fit .entry)) ⌝ }
+{
+    let layout = shape.layout;
+    match layout {
+        Layout::Dense => dense_update(shape, values, feature, d, fit),
+        Layout::Csc => csc_update(shape, starts, rows, values, feature, d, fit),
+    }
+}
+
+// ---- the fit of a list of features
+
+// Every place becomes +0.0.
+pub fn clear(buf: &mut [f64])
+    ensures { λ _. ⌜ now (buf .exit) ≡ tab (λ j. #0) (length (now (buf .entry))) ⌝ }
+{
+    let mut j = 0;
+    while j < buf.len() {
+        buf[j] = 0.0;
+        j += 1;
+    }
+}
+
+// What a sample of a dense design, whose row starts at base, gets of the weights w at the features ws.
+fn row_fit(values: &[f64], base: usize, ws: &[u32], w: &[f64]) -> f64
+    requires { ⌜ ((k : ℕ) → k < length (now ws) → getD (now ws) k 0 < length (now w)) × (base + length (now w) ≤ length (now values)) ⌝ }
+    ensures { λ r. ⌜ r ≡ rowFit (now (values .entry)) (now (ws .entry)) (now (w .entry)) base ⌝ }
+{
+    let mut s = 0.0;
+    let mut k = 0;
+    while k < ws.len() {
+        let j = ws[k] as usize;
+        s = s + w[j] * values[base + j];
+        k += 1;
+    }
+    s
+}
+
+// Row by row: the same bits as column by column, since each sample adds the features in their order, and memory is streamed once.
+fn dense_extrapolated_fit(values: &[f64], ws: &[u32], w: &[f64], fit: &mut [f64])
+    requires { ⌜ ((k : ℕ) → k < length (now ws) → getD (now ws) k 0 < length (now w)) × (length (now fit) * length (now w) ≤ length (now values)) ⌝ }
+    ensures { λ _. ⌜ now (fit .exit) ≡ def.extrapolated (def.dense (length (now (fit .entry))) (length (now (w .entry))) (now (values .entry))) (now (ws .entry)) (now (w .entry)) ⌝ }
+{
+    let mut i = 0;
+    while i < fit.len() {
+        fit[i] = row_fit(values, i * w.len(), ws, w);
+        i += 1;
+    }
+}
+
+// The fit gains the columns of ws in their order, each times its weight.
+fn csc_update_all(
+    shape: Shape,
+    starts: &[u32],
+    rows: &[u32],
+    values: &[f64],
+    ws: &[u32],
+    w: &[f64],
+    fit: &mut [f64],
+)
+    requires { ⌜ ((k : ℕ) → k < length (now ws) → getD (now ws) k 0 < shape .p) × Sound (shape .n) (shape .p) (now starts) (now rows) (now values) × (length (now w) ≡ shape .p) × (length (now fit) ≡ shape .n) ⌝ }
+    ensures { λ _. ⌜ now (fit .exit) ≡ def.movedAll (def.csc (shape .n) (shape .p) (now (starts .entry)) (now (rows .entry)) (now (values .entry))) (now (ws .entry)) (now (w .entry)) (now (fit .entry)) ⌝ }
+{
+    let mut k = 0;
+    while k < ws.len() {
+        let j = ws[k] as usize;
+        csc_update(shape, starts, rows, values, Feature(j), w[j], fit);
+        k += 1;
+    }
+}
+
+fn csc_extrapolated_fit(
+    shape: Shape,
+    starts: &[u32],
+    rows: &[u32],
+    values: &[f64],
+    ws: &[u32],
+    w: &[f64],
+    fit: &mut [f64],
+)
+    requires { ⌜ ((k : ℕ) → k < length (now ws) → getD (now ws) k 0 < shape .p) × Sound (shape .n) (shape .p) (now starts) (now rows) (now values) × (length (now w) ≡ shape .p) × (length (now fit) ≡ shape .n) ⌝ }
+    ensures { λ _. ⌜ now (fit .exit) ≡ def.extrapolated (def.csc (shape .n) (shape .p) (now (starts .entry)) (now (rows .entry)) (now (values .entry))) (now (ws .entry)) (now (w .entry)) ⌝ }
+{
+    clear(fit);
+    csc_update_all(shape, starts, rows, values, ws, w, fit);
+}
+
+// The fit of the p weights w at the features ws, all others counting as zero, into n places.
+pub fn extrapolated_fit(
+    shape: Shape,
+    starts: &[u32],
+    rows: &[u32],
+    values: &[f64],
+    ws: &[u32],
+    w: &[f64],
+    fit: &mut [f64],
+)
+    requires { ⌜ ((k : ℕ) → k < length (now ws) → getD (now ws) k 0 < shape .p) × Whole shape (now starts) (now rows) (now values) × (length (now w) ≡ shape .p) × (length (now fit) ≡ shape .n) ⌝ }
+    ensures { λ _. ⌜ now (fit .exit) ≡ def.extrapolated (def.design shape (now (starts .entry)) (now (rows .entry)) (now (values .entry))) (now (ws .entry)) (now (w .entry)) ⌝ }
+{
+    let layout = shape.layout;
+    match layout {
+        Layout::Dense => dense_extrapolated_fit(values, ws, w, fit),
+        Layout::Csc => csc_extrapolated_fit(shape, starts, rows, values, ws, w, fit),
+    }
+}

@@ -1,0 +1,53 @@
+-- `initialize`: the tests, then the preparation. Assumes nothing.
+use mathlib.Core.Path.{sym, _∙_}
+use native.Mathlib.Nat.{le-of-eq}
+use borrow.Author.Tests.{leb-true, eqb-true}
+use Rattle.designs.proofs.Laws.Passed.{admits}
+use Rattle.datafits.proofs.Laws.Calls.{stop, stop-left, pass, pass-left}
+use Rattle.datafits.specs.Calls.{initializeFault, initialized}
+use borrow.Author.Needs.{needs}
+use Rattle.datafits.proofs.initialize.Statement.{statement}
+use Rattle.datafits.proofs.initialize.Tie as tie
+
+room-twice-requires : tie.Need-room-twice-requires
+room-twice-requires c κs = search needs
+
+admit-requires : tie.Need-admit-requires
+admit-requires c κs = search needs
+
+enum-known-r : tie.Need-enum-known-r
+enum-known-r c = search needs
+
+enum-told : tie.Need-enum-told
+enum-told c = search needs
+
+initialize-requires : tie.Need-initialize-requires
+initialize-requires c κs = let a = admits _ _ _ _ _ _ _ (sym (pass _ (c .before .before .before .admit .ensures) (c .before .enum-told .given .1))) in (a .sized .few, leb-true _ _ (sym (c .before .before .before .before .room-twice .ensures) ∙ a .roomy), a .whole, le-of-eq (sym (eqb-true _ _ (a .fit))))
+
+same-length : tie.Need-same-length
+same-length c = search needs
+
+returns : tie.Need-returns
+unfolding initializeFault initialized
+returns c = rw (← c .before .before .before .before .room-twice .ensures) (stop _ (c .before .before .before .admit .ensures) _ (c .before .r .given .1), stop-left _ (c .before .before .before .admit .ensures) _ _ _ (c .before .r .given .1))
+
+same-length-2 : tie.Need-same-length-2
+same-length-2 c = search needs
+
+returns-2 : tie.Need-returns-2
+unfolding initializeFault initialized
+returns-2 c = rw (← c .before .before .before .before .before .before .before .room-twice .ensures) (pass _ (c .before .before .before .before .before .before .admit .ensures) (c .before .before .before .before .enum-told .given .1), pass-left _ (c .before .before .before .before .before .before .admit .ensures) _ _ _ (c .before .before .before .before .enum-told .given .1) (c .before .before .initialize .ensures))
+
+pub initialize-spec : {M : Type 1} → statement M
+initialize-spec =
+    tie.close
+    (tie.spec
+    room-twice-requires
+    admit-requires
+    enum-known-r
+    enum-told
+    initialize-requires
+    same-length
+    returns
+    same-length-2
+    returns-2)

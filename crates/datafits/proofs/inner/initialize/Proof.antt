@@ -1,0 +1,38 @@
+-- `initialize`: the preparation, lent the first 2p places. Assumes nothing.
+use mathlib.Core.Path.{sym}
+use Prim.Native.Nat.{_+_}
+use denote.Ref.{now}
+use lib.Seq.{length-take-le}
+use Rattle.doubles.proofs.Laws.Buffer.{put-front}
+use borrow.Author.Needs.{needs}
+use Rattle.datafits.proofs.inner.initialize.Statement.{statement}
+use Rattle.datafits.proofs.inner.initialize.Tie as tie
+
+add-room : tie.Need-add-room
+add-room c = search needs
+
+slice-relend-prefix-prepare : tie.Need-slice-relend-prefix-prepare
+slice-relend-prefix-prepare c = search needs
+
+slice-aggregate-prepare : tie.Need-slice-aggregate-prepare
+slice-aggregate-prepare c = sym (length-take-le _ _ (c .before .before .before .before .before .before .before .pre .1))
+
+prepare-requires : tie.Need-prepare-requires
+prepare-requires c κs = (c .before .before .before .before .before .before .before .pre .0, length-take-le _ _ (c .before .before .before .before .before .before .before .pre .1), c .before .before .before .before .before .before .before .pre .2, c .before .before .before .before .before .before .before .pre .3)
+
+same-length : tie.Need-same-length
+same-length c = search needs
+
+returns : tie.Need-returns
+returns c = put-front (now (c .before .before .before .before .before .before .before .before .before .before .args .prepared)) (c .before .before .before .before .before .before .before .before .before .before .args .shape .p + c .before .before .before .before .before .before .before .before .before .before .args .shape .p) (c .before .before .prepare .last .1 .1 .1 .1 .1 .0) _ (c .before .before .before .before .before .before .before .before .before .before .pre .1) (c .before .before .prepare .kept .1 .1 .1 .1 .1 .0) (c .before .before .prepare .ensures)
+
+pub initialize-spec : {M : Type 1} → statement M
+initialize-spec =
+    tie.close
+    (tie.spec
+    add-room
+    slice-relend-prefix-prepare
+    slice-aggregate-prepare
+    prepare-requires
+    same-length
+    returns)

@@ -1,0 +1,2 @@
+-- What a reader believes of the datafit's public calls.
+pub mod Calls

@@ -1,0 +1,4 @@
+-- Laws on the definitions of specs/, which this crate and those above cite.
+pub mod Search
+pub mod Layouts
+pub mod Passed

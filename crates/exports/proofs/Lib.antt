@@ -1,0 +1,2 @@
+-- What is proved of the calls from other languages beside their promises.
+mod Tight

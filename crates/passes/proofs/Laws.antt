@@ -1,0 +1,2 @@
+-- Laws on the definitions of `designs`.
+pub mod Rows

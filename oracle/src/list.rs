@@ -1,0 +1,95 @@
+//! Writes the list of a layer: comments that say how it was made, then the
+//! records.
+
+use crate::random::Random;
+use crate::record::{unwritable, Differences, Record};
+use std::io::{self, Write};
+
+/// How the list of a layer is made.
+pub struct Recipe {
+    pub layer: &'static str,
+    /// Codes with their shares of a thousand.
+    pub shares: &'static [(u32, u64)],
+    /// The code that takes what is left.
+    pub last: u32,
+    /// How the cases are chosen, in lines.
+    pub how: &'static [&'static str],
+    /// Makes so many cases of one code.
+    pub part: fn(u32, usize, &mut Random) -> Part,
+    /// What the header says at its end.
+    pub notes: fn(&[Part]) -> Vec<String>,
+}
+
+/// The records of one code.
+pub struct Part {
+    pub code: u32,
+    pub records: Vec<Record>,
+    /// What the header says of them beside their number.
+    pub remark: String,
+}
+
+impl Part {
+    fn differing(&self) -> usize {
+        let differing = self.records.iter().filter(|record| record.differs());
+        differing.count()
+    }
+
+    fn told(&self) -> String {
+        let (code, cases, remark) = (self.code, self.records.len(), &self.remark);
+        let differing = self.differing();
+        format!(
+            "code {code:x}: {cases} cases, {remark}, published answers otherwise in {differing}"
+        )
+    }
+}
+
+impl Recipe {
+    /// How many cases of each code make up the list.
+    fn plan(&self, count: u64) -> Vec<(u32, u64)> {
+        let mut plan: Vec<_> = self
+            .shares
+            .iter()
+            .map(|&(code, share)| (code, count / 1000 * share + count % 1000 * share / 1000))
+            .collect();
+        let planned: u64 = plan.iter().map(|(_, cases)| cases).sum();
+        plan.push((self.last, count - planned));
+        plan
+    }
+
+    fn header(&self, seed: u64, count: u64, parts: &[Part]) -> Vec<String> {
+        let mut lines = vec![
+            format!("made by: oracle list {} {seed} {count}", self.layer),
+            format!("seed {seed}, count {count}"),
+        ];
+        lines.extend(self.how.iter().map(|line| line.to_string()));
+        lines.extend(parts.iter().map(Part::told));
+        let differing: usize = parts.iter().map(Part::differing).sum();
+        lines.push(format!(
+            "published answers otherwise in {differing} cases in all"
+        ));
+        lines.extend((self.notes)(parts));
+        lines
+    }
+
+    pub fn write(&self, seed: u64, count: u64) -> Result<(), String> {
+        let mut random = Random::new(seed);
+        let parts: Vec<Part> = self
+            .plan(count)
+            .into_iter()
+            .map(|(code, cases)| (self.part)(code, cases as usize, &mut random))
+            .collect();
+
+        let mut out = io::BufWriter::new(io::stdout().lock());
+        for line in self.header(seed, count, &parts) {
+            writeln!(out, "# {line}").map_err(unwritable)?;
+        }
+        let mut differences = Differences::default();
+        for record in parts.iter().flat_map(|part| &part.records) {
+            writeln!(out, "{}", record.text()).map_err(unwritable)?;
+            differences.note(record);
+        }
+        out.flush().map_err(unwritable)?;
+        differences.tell_count();
+        Ok(())
+    }
+}
