@@ -3,6 +3,7 @@
 use crate::calls::{Designs, Leaves, Runs};
 use crate::designs::Design;
 use crate::leaves::{Kind, Penalty};
+use crate::runs::{named, FitCase, Outcome, LAYOUTS};
 use crate::{loops, published};
 
 fn same(what: &str, found: &[f64], expected: &[f64]) -> Result<(), String> {
@@ -56,12 +57,37 @@ fn check_designs<V: Designs>() -> Result<(), String> {
     Ok(())
 }
 
+fn check_run<V: Runs>(case: &FitCase, counts: [u32; 3], point: [f64; 4]) -> Result<(), String> {
+    let Outcome::Finished(report) = V::run(case) else {
+        return Err("check: a run is refused".into());
+    };
+    let found = [report.iterations, report.epochs, report.extrapolations];
+    same(
+        "a run's counts",
+        &found.map(f64::from),
+        &counts.map(f64::from),
+    )?;
+    same("a run's violation", &[report.violation], &[0.0])?;
+    let found = [report.weights, report.fit].concat();
+    same("a run's weights and fit", &found, &point)
+}
+
+/// P8 to P10, and P4 of the working set.
 fn check_runs<V: Runs>() -> Result<(), String> {
-    for extrapolate in [false, true] {
-        same("dense run", &V::small_dense(extrapolate), &[1.0, 0.0])?;
-        same("sparse run", &V::small_sparse(extrapolate), &[1.0, 0.0])?;
+    for layout in LAYOUTS {
+        for extrapolate in [false, true] {
+            let [p8, p9, p10] = named(layout, extrapolate);
+            check_run::<V>(&p8, [1, 11, 0], [1.0, 0.0, 2.0, 0.0])?;
+            check_run::<V>(&p9, [1, 11, 0], [-1.0, 0.0, -2.0, 0.0])?;
+            check_run::<V>(&p10, [0, 0, 0], [0.0; 4])?;
+        }
     }
-    Ok(())
+    let set = |start| {
+        let set = V::working_set(&[0.0, 0.0, 5.0, 0.0], &[1.0, 3.0, 0.5, 3.0], start);
+        set.into_iter().map(f64::from).collect::<Vec<_>>()
+    };
+    same("a working set", &set(1), &[2.0, 1.0])?;
+    same("a working set", &set(3), &[2.0, 1.0, 3.0])
 }
 
 pub fn check() -> Result<(), String> {

@@ -3,6 +3,7 @@
 
 use crate::random::Random;
 use crate::record::{unwritable, Differences, Record};
+use crate::words::Word;
 use std::io::{self, Write};
 
 /// How the list of a layer is made.
@@ -26,6 +27,8 @@ pub struct Part {
     pub records: Vec<Record>,
     /// What the header says of them beside their number.
     pub remark: String,
+    /// What it says in lines of their own.
+    pub details: Vec<String>,
 }
 
 impl Part {
@@ -34,13 +37,32 @@ impl Part {
         differing.count()
     }
 
-    fn told(&self) -> String {
+    fn told(&self) -> Vec<String> {
         let (code, cases, remark) = (self.code, self.records.len(), &self.remark);
         let differing = self.differing();
-        format!(
+        let line = format!(
             "code {code:x}: {cases} cases, {remark}, published answers otherwise in {differing}"
-        )
+        );
+        let details = self.details.iter().map(|detail| format!("  {detail}"));
+        [line].into_iter().chain(details).collect()
     }
+}
+
+/// How many cases of a layer with refusals are answered and how many refused.
+/// The refusal number is the first word of every answer there.
+pub fn refusals(records: &[Record]) -> String {
+    let count = |number| {
+        let with = |record: &&Record| record.answers()[0] == Word::Count(number);
+        records.iter().filter(with).count()
+    };
+    let mut told = format!("{} answered", count(0));
+    for number in 1..=8 {
+        match count(number) {
+            0 => {}
+            refused => told += &format!(", {refused} refused with {number}"),
+        }
+    }
+    told
 }
 
 impl Recipe {
@@ -62,7 +84,7 @@ impl Recipe {
             format!("seed {seed}, count {count}"),
         ];
         lines.extend(self.how.iter().map(|line| line.to_string()));
-        lines.extend(parts.iter().map(Part::told));
+        lines.extend(parts.iter().flat_map(Part::told));
         let differing: usize = parts.iter().map(Part::differing).sum();
         lines.push(format!(
             "published answers otherwise in {differing} cases in all"

@@ -14,12 +14,13 @@ mod loops;
 mod published;
 mod random;
 mod record;
+mod runs;
 mod words;
 
 use std::process::ExitCode;
 
 const USAGE: &str =
-    "usage: oracle ask WORD.. | oracle answer | oracle list leaves|designs SEED COUNT";
+    "usage: oracle ask WORD.. | oracle answer | oracle list leaves|designs|runs SEED COUNT";
 
 fn list(words: &[&str]) -> Result<(), String> {
     let decimal = |word: &str| {
@@ -29,6 +30,7 @@ fn list(words: &[&str]) -> Result<(), String> {
     match words {
         ["leaves", seed, count] => leaves::LIST.write(decimal(seed)?, decimal(count)?),
         ["designs", seed, count] => designs::LIST.write(decimal(seed)?, decimal(count)?),
+        ["runs", seed, count] => runs::LIST.write(decimal(seed)?, decimal(count)?),
         _ => Err(USAGE.into()),
     }
 }

@@ -14,7 +14,7 @@ use designs::Sample;
 use designs::Shape;
 
 // The sample of a stored entry.
-fn sample_of(rows: &[u32], e: usize) -> Sample
+pub fn sample_of(rows: &[u32], e: usize) -> Sample
     requires { ⌜ e < length (now rows) ⌝ }
     ensures { λ r. ⌜ r .0 ≡ getD (now (rows .entry)) e 0 ⌝ }
 {

@@ -14,7 +14,7 @@ use designs::checks::both;
 use leaves::Number;
 use leaves::Refusal;
 
-mod inner;
+pub mod inner;
 
 // The constants and X'y into the first 2p places of a lent buffer.
 pub fn initialize(

@@ -10,20 +10,20 @@ use crate::designs::{Design, Layout};
 use crate::words::Word;
 use ndarray::{Array1, Array2, ArrayView1};
 
-fn dense(design: &Design) -> Array2<F> {
+pub fn dense(design: &Design) -> Array2<F> {
     let shape = (design.samples as usize, design.features as usize);
     Array2::from_shape_vec(shape, numbers(&design.values)).expect("n·p values")
 }
 
 /// The three arrays that a CSC design of the Rust looks into.
-struct Arrays {
+pub struct Arrays {
     values: Vec<F>,
     rows: Vec<i32>,
     starts: Vec<i32>,
 }
 
 impl Arrays {
-    fn of(design: &Design) -> Arrays {
+    pub fn of(design: &Design) -> Arrays {
         // Rows and starts that are not refused are far below 2^31.
         let signed = |indices: &[u32]| indices.iter().map(|&index| index as i32).collect();
         Arrays {
@@ -33,7 +33,7 @@ impl Arrays {
         }
     }
 
-    fn view(&self) -> CSCArray<'_, F> {
+    pub fn view(&self) -> CSCArray<'_, F> {
         CSCArray::new(
             ArrayView1::from(&self.values[..]),
             ArrayView1::from(&self.rows[..]),
@@ -46,23 +46,24 @@ impl Arrays {
 macro_rules! by_layout {
     ($design:expr, $x:ident => $answer:expr) => {
         match $design.layout {
-            Layout::Dense => {
-                let $x = dense($design);
+            crate::designs::Layout::Dense => {
+                let $x = super::designs::dense($design);
                 $answer
             }
-            Layout::Csc => {
-                let arrays = Arrays::of($design);
+            crate::designs::Layout::Csc => {
+                let arrays = super::designs::Arrays::of($design);
                 let $x = arrays.view();
                 $answer
             }
         }
     };
 }
+pub(super) use by_layout;
 
 /// X'y is private, but the datafit can be printed for debugging, and a double
 /// that Rust prints so reads back as the same double (only NaN payloads are
 /// lost).
-fn products(datafit: &Quadratic<F>) -> Vec<f64> {
+pub fn products(datafit: &Quadratic<F>) -> Vec<f64> {
     let text = format!("{datafit:?}");
     let (_, shown) = text.split_once("Xty: ").expect("the datafit holds X'y");
     let (_, list) = shown.rsplit_once('[').expect("X'y is a list");

@@ -8,7 +8,7 @@ use crate::calls::Leaves;
 use crate::leaves::{Kind, Penalty};
 use ndarray::{Array1, Array2};
 
-fn build(penalty: &Penalty) -> Box<dyn PenaltyCalls<F>> {
+pub fn build(penalty: &Penalty) -> Box<dyn PenaltyCalls<F>> {
     let (alpha, second) = (F::from(penalty.alpha), F::from(penalty.second));
     match penalty.kind {
         Kind::L1 => Box::new(L1::new(alpha)),

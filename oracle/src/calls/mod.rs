@@ -4,6 +4,7 @@
 
 use crate::designs::Design;
 use crate::leaves::Penalty;
+use crate::runs::{FitCase, Outcome};
 
 /// Soft threshold, elimination and penalties.
 pub trait Leaves {
@@ -34,11 +35,10 @@ pub trait Designs {
     fn alpha_max(design: &Design, targets: &[f64]) -> f64;
 }
 
-/// Whole runs; so far only the two that the self check needs.
+/// Whole runs and the working set. What is asked here is refused with 7 at most.
 pub trait Runs {
-    /// The weights of document 01's 2 by 2 case, from a dense design.
-    fn small_dense(extrapolate: bool) -> Vec<f64>;
+    fn run(case: &FitCase) -> Outcome;
 
-    /// The same from a CSC design.
-    fn small_sparse(extrapolate: bool) -> Vec<f64>;
+    /// The features in the set, in its order.
+    fn working_set(weights: &[f64], violations: &[f64], start: usize) -> Vec<u32>;
 }

@@ -1,52 +1,193 @@
-//! Whole runs; compiled once in each variant.
+//! Whole runs and the working set; compiled once in each variant. The Rust's
+//! design, datafit and penalty are wrapped: what is asked of a wrapper is asked
+//! of the Rust's own, and the watch is told.
 
+use super::designs::{by_layout, products};
 use super::glm::datafits::single_task::{Datafit, Quadratic};
-use super::glm::datasets::{csc_array::CSCArray, DatasetBase, DesignMatrix};
-use super::glm::penalties::separable::L1;
-use super::glm::solvers::anderson_cd::coordinate_descent;
-use super::numbers::{array, doubles, numbers};
+use super::glm::datasets::{DatasetBase, DesignMatrix, DesignMatrixType};
+use super::glm::penalties::separable::Penalty;
+use super::glm::solvers::anderson_cd::{construct_ws_from_kkt, coordinate_descent};
+use super::leaves::build;
+use super::numbers::{array, doubles};
 use super::{Rust, F};
 use crate::calls::Runs;
+use crate::runs::{outcome, FitCase, Outcome, Watch};
 use ndarray::{Array1, Array2, ArrayView1};
 
-/// Targets 3 and 1, alpha 1, tolerance 0, 5 iterations, 20 epochs. The Rust
-/// wants at least K features in the working set, so extrapolating starts at 2.
-fn small_run<DM>(design: DM, extrapolate: bool) -> Vec<f64>
+const ONE_TASK: &str = "a run of one task asks nothing about several";
+
+struct WatchedDesign<'a, DM> {
+    design: &'a DM,
+    watch: &'a Watch,
+}
+
+impl<DM: DesignMatrix<Elem = F>> DesignMatrix for WatchedDesign<'_, DM> {
+    type Elem = F;
+
+    fn n_features(&self) -> usize {
+        self.design.n_features()
+    }
+
+    fn matrix_type(&self) -> DesignMatrixType {
+        self.design.matrix_type()
+    }
+
+    fn compute_extrapolated_fit(
+        &self,
+        set: ArrayView1<usize>,
+        weights: &Array1<F>,
+        samples: usize,
+    ) -> Array1<F> {
+        let fit = self.design.compute_extrapolated_fit(set, weights, samples);
+        let (weights, entries) = (doubles(weights.view()), doubles(fit.view()));
+        self.watch.candidate(weights, entries);
+        fit
+    }
+
+    fn compute_extrapolated_fit_multi_task(
+        &self,
+        _: ArrayView1<usize>,
+        _: &Array2<F>,
+        _: usize,
+        _: usize,
+    ) -> Array2<F> {
+        unreachable!("{ONE_TASK}")
+    }
+
+    fn update_model_fit(&self, fit: &mut Array1<F>, difference: F, feature: usize) {
+        self.design.update_model_fit(fit, difference, feature);
+        self.watch.changed_fit(doubles(fit.view()));
+    }
+
+    fn update_model_fit_multi_task(&self, _: &mut Array2<F>, _: ArrayView1<F>, _: usize) {
+        unreachable!("{ONE_TASK}")
+    }
+}
+
+/// Asks the Rust's datafit about the design that is not wrapped.
+struct WatchedDatafit<'a, DM: DesignMatrix> {
+    datafit: Quadratic<F>,
+    dataset: &'a DatasetBase<DM, Array1<F>>,
+    watch: &'a Watch,
+}
+
+type WatchedDataset<'a, DM> = DatasetBase<WatchedDesign<'a, DM>, Array1<F>>;
+
+impl<'a, DM> Datafit<F, WatchedDesign<'a, DM>, Array1<F>> for WatchedDatafit<'a, DM>
 where
     DM: DesignMatrix<Elem = F>,
     Quadratic<F>: Datafit<F, DM, Array1<F>>,
 {
-    let dataset = DatasetBase::new(design, array(&[3.0, 1.0]));
-    let (start, depth) = if extrapolate { (2, 2) } else { (1, 5) };
+    fn initialize(&mut self, _: &WatchedDataset<'a, DM>) {
+        self.datafit.initialize(self.dataset);
+        let constants = doubles(self.datafit.step_size());
+        self.watch.initialized(&constants, &products(&self.datafit));
+    }
+
+    fn value(&self, _: &WatchedDataset<'a, DM>, fit: ArrayView1<F>) -> F {
+        let value = self.datafit.value(self.dataset, fit);
+        self.watch.datafit(&doubles(fit), value.into());
+        value
+    }
+
+    fn gradient_j(&self, _: &WatchedDataset<'a, DM>, fit: ArrayView1<F>, feature: usize) -> F {
+        let gradient = self.datafit.gradient_j(self.dataset, fit, feature);
+        self.watch.gradient(feature, &doubles(fit), gradient.into());
+        gradient
+    }
+
+    fn full_grad(&self, _: &WatchedDataset<'a, DM>, _: ArrayView1<F>) -> Array1<F> {
+        unreachable!("a run asks for gradients one by one")
+    }
+
+    fn step_size(&self) -> ArrayView1<'_, F> {
+        self.watch.epoch();
+        self.datafit.step_size()
+    }
+}
+
+struct WatchedPenalty<'a> {
+    penalty: Box<dyn Penalty<F>>,
+    watch: &'a Watch,
+}
+
+impl Penalty<F> for WatchedPenalty<'_> {
+    fn value(&self, weights: ArrayView1<F>) -> F {
+        let value = self.penalty.value(weights);
+        self.watch.penalty(&doubles(weights), value.into());
+        value
+    }
+
+    fn prox(&self, value: F, step: F) -> F {
+        let weight = self.penalty.prox(value, step);
+        self.watch.weight(weight.into());
+        weight
+    }
+
+    fn subdiff_distance(
+        &self,
+        weights: ArrayView1<F>,
+        gradients: ArrayView1<F>,
+        set: ArrayView1<usize>,
+    ) -> (Array1<F>, F) {
+        let (violations, largest) = self.penalty.subdiff_distance(weights, gradients, set);
+        let (weights, numbers) = (doubles(weights), doubles(violations.view()));
+        let told = self.watch.check(&weights, &numbers, largest.into());
+        (violations, F::from(told))
+    }
+}
+
+/// The weights that the Rust gives back.
+fn watched_run<DM>(design: DM, case: &FitCase, watch: &Watch) -> Vec<f64>
+where
+    DM: DesignMatrix<Elem = F>,
+    Quadratic<F>: Datafit<F, DM, Array1<F>>,
+{
+    let (settings, depth) = (&case.settings, case.depth_in_use());
+    let dataset = DatasetBase::new(design, array(&case.targets));
+    let design = WatchedDesign {
+        design: dataset.design_matrix(),
+        watch,
+    };
+    let mut datafit = WatchedDatafit {
+        datafit: Quadratic::new(),
+        dataset: &dataset,
+        watch,
+    };
+    let penalty = WatchedPenalty {
+        penalty: build(&settings.penalty),
+        watch,
+    };
     let weights = coordinate_descent(
-        &dataset,
-        &mut Quadratic::new(),
-        &L1::new(F::from(1.0)),
-        start,
-        5,
-        20,
-        F::from(0.0),
-        depth,
-        extrapolate,
+        &DatasetBase::new(design, array(&case.targets)),
+        &mut datafit,
+        &penalty,
+        settings.start as usize,
+        // The last check is the first step of one iteration more.
+        settings.iterations as usize + 1,
+        settings.epochs as usize,
+        F::from(settings.tolerance),
+        // The Rust sizes its history by the depth even where it isn't used.
+        depth.unwrap_or(1),
+        depth.is_some(),
         false,
     );
     doubles(weights.view())
 }
 
 impl Runs for Rust {
-    fn small_dense(extrapolate: bool) -> Vec<f64> {
-        let rows = numbers(&[2.0, 0.0, 0.0, 2.0]);
-        let design = Array2::from_shape_vec((2, 2), rows).expect("four entries");
-        small_run(design, extrapolate)
+    fn run(case: &FitCase) -> Outcome {
+        outcome(
+            case,
+            |watch| by_layout!(&case.design, x => watched_run(x, case, watch)),
+        )
     }
 
-    fn small_sparse(extrapolate: bool) -> Vec<f64> {
-        let values = numbers(&[2.0, 2.0]);
-        let design = CSCArray::new(
-            ArrayView1::from(&values[..]),
-            ArrayView1::from(&[0, 1][..]),
-            ArrayView1::from(&[0, 1, 2][..]),
-        );
-        small_run(design, extrapolate)
+    fn working_set(weights: &[f64], violations: &[f64], start: usize) -> Vec<u32> {
+        // The Rust writes to the violations, so it gets a copy.
+        let mut violations = array(violations);
+        let (set, size) = construct_ws_from_kkt(&mut violations, array(weights).view(), start);
+        assert_eq!(set.len(), size);
+        set.iter().map(|&feature| feature as u32).collect()
     }
 }

@@ -2,7 +2,7 @@
 //! it, so that what `rules` finds is seen to be right.
 
 use super::cases::sound;
-use super::{Call, DesignCase, Input, Layout};
+use super::{Call, Design, DesignCase, Input, Layout, Refusal};
 use crate::random::Random;
 
 /// Where in an array a fault lies, or how short a buffer is cut.
@@ -13,11 +13,11 @@ pub enum Place {
     Last,
 }
 
-const ANYWHERE: [Place; 3] = [Place::First, Place::Middle, Place::Last];
+pub const ANYWHERE: [Place; 3] = [Place::First, Place::Middle, Place::Last];
 
 impl Place {
     /// None where the array is too short for it.
-    fn of(self, length: usize) -> Option<usize> {
+    pub fn of(self, length: usize) -> Option<usize> {
         match self {
             Place::First => (length > 0).then_some(0),
             Place::Middle => (length > 2).then_some(length / 2),
@@ -25,7 +25,7 @@ impl Place {
         }
     }
 
-    fn among(self, candidates: Vec<usize>) -> Option<usize> {
+    pub fn among(self, candidates: Vec<usize>) -> Option<usize> {
         self.of(candidates.len()).map(|index| candidates[index])
     }
 }
@@ -339,8 +339,14 @@ fn bad_value(case: &mut DesignCase, place: Place, random: &mut Random) -> Option
 #[derive(Clone, Copy)]
 pub struct Plan {
     fault: &'static Fault,
-    layout: Layout,
+    pub layout: Layout,
     place: Place,
+}
+
+impl Plan {
+    pub fn number(&self) -> u32 {
+        self.fault.number
+    }
 }
 
 /// All ways in which a call can be refused, in both layouts. (The value's cases
@@ -361,6 +367,28 @@ pub fn plans(call: Call) -> Vec<Plan> {
         }
     }
     plans
+}
+
+/// All ways in which a design with its targets can be refused.
+pub fn input_plans() -> Vec<Plan> {
+    plans(Call::Check)
+}
+
+/// Puts a fault into a design or its targets, for a call of another layer, and
+/// says what must be found; None where there is no place for it.
+pub fn spoil_inputs(
+    plan: Plan,
+    design: &mut Design,
+    targets: &mut Vec<f64>,
+    random: &mut Random,
+) -> Option<Refusal> {
+    let mut case = DesignCase::empty(Call::Check);
+    std::mem::swap(&mut case.design, design);
+    std::mem::swap(&mut case.targets, targets);
+    let place = (plan.fault.spoil)(&mut case, plan.place, random);
+    std::mem::swap(&mut case.design, design);
+    std::mem::swap(&mut case.targets, targets);
+    place.map(|place| (plan.number(), place as u32))
 }
 
 /// Puts faults of falling or equal number into the case. The one of the lowest

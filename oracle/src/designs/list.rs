@@ -3,7 +3,7 @@
 use super::cases::sound;
 use super::faults::{plans, spoiled, twice_spoiled, Plan};
 use super::{Call, DesignCase, Layout};
-use crate::list::{Part, Recipe};
+use crate::list::{refusals, Part, Recipe};
 use crate::random::Random;
 use crate::record::Record;
 use crate::words::Word;
@@ -59,31 +59,17 @@ fn make(call: Call, index: usize, plans: &[Plan], random: &mut Random) -> Design
     }
 }
 
-/// The refusal number is the first word of every answer.
-fn refused(records: &[Record], number: u32) -> usize {
-    let refused = records
-        .iter()
-        .filter(|record| record.answers()[0] == Word::Count(number));
-    refused.count()
-}
-
 fn part(code: u32, cases: usize, random: &mut Random) -> Part {
     let call = Call::of(code).expect("a code of the recipe");
     let plans = plans(call);
     let made = |index| Record::of(&make(call, index, &plans, random));
     let records: Vec<Record> = (0..cases).map(made).collect();
 
-    let mut remark = format!("{} answered", refused(&records, 0));
-    for number in [1, 3, 4, 5, 6] {
-        match refused(&records, number) {
-            0 => {}
-            count => remark += &format!(", {count} refused with {number}"),
-        }
-    }
     Part {
         code,
+        remark: refusals(&records),
         records,
-        remark,
+        details: Vec::new(),
     }
 }
 

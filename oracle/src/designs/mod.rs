@@ -7,7 +7,9 @@ mod faults;
 mod list;
 mod rules;
 
+pub use faults::{input_plans, spoil_inputs, Place, Plan, ANYWHERE};
 pub use list::LIST;
+pub use rules::{Refusal, FEATURES};
 
 use crate::words::{counted, counted_indices, Reader, Word};
 
@@ -52,7 +54,7 @@ impl Design {
         }
     }
 
-    fn words(&self) -> Vec<Word> {
+    pub fn words(&self) -> Vec<Word> {
         let sizes = [self.layout as u32, self.samples, self.features];
         [
             sizes.map(Word::Count).to_vec(),
@@ -63,7 +65,7 @@ impl Design {
         .concat()
     }
 
-    fn read(reader: &mut Reader) -> Result<Design, String> {
+    pub fn read(reader: &mut Reader) -> Result<Design, String> {
         let layout = match reader.count()? {
             0 => Layout::Dense,
             1 => Layout::Csc,

@@ -5,7 +5,7 @@ use super::{Design, DesignCase, Input, Layout};
 use std::ops::RangeInclusive;
 
 const SAMPLES: RangeInclusive<usize> = 1..=65_536;
-const FEATURES: RangeInclusive<usize> = 1..=8_192;
+pub const FEATURES: RangeInclusive<usize> = 1..=8_192;
 const MOST_STORED: usize = 16_777_216;
 
 /// Number and place.
@@ -46,6 +46,28 @@ impl Design {
             row >= self.samples || (!heads_column && row <= self.rows[position - 1])
         })
     }
+
+    /// Targets are tested first; values are counted from n, also where there
+    /// are no targets.
+    fn bad_number(&self, targets: &[f64]) -> Option<usize> {
+        let value = || not_finite(&self.values);
+        not_finite(targets).or_else(|| value().map(|position| self.samples as usize + position))
+    }
+
+    /// Refusal 1 of a design with its targets.
+    pub fn sizes_hold_with(&self, targets: &[f64]) -> bool {
+        let samples = self.samples as usize;
+        SAMPLES.contains(&samples) && self.sizes_hold() && targets.len() == samples
+    }
+
+    /// Refusals 4 to 6, where the lengths agree.
+    pub fn refused_content(&self, targets: &[f64]) -> Option<Refusal> {
+        let at = |number| move |place| (number, place as u32);
+        let start = self.bad_start().map(at(4));
+        start
+            .or_else(|| self.bad_row().map(at(5)))
+            .or_else(|| self.bad_number(targets).map(at(6)))
+    }
 }
 
 fn not_finite(numbers: &[f64]) -> Option<usize> {
@@ -69,13 +91,6 @@ impl DesignCase {
         lent.any(|(room, buffer)| buffer.len() < self.length(room))
     }
 
-    /// Targets are tested first; values are counted from n, also where there
-    /// are no targets.
-    fn bad_number(&self) -> Option<usize> {
-        let value = || not_finite(&self.design.values);
-        not_finite(&self.targets).or_else(|| value().map(|position| self.samples() + position))
-    }
-
     /// The first that applies, in document 01's order.
     pub fn refusal(&self) -> Option<Refusal> {
         if !self.sizes_hold() {
@@ -84,10 +99,6 @@ impl DesignCase {
         if self.room_lacks() {
             return Some((3, 0));
         }
-        let at = |number| move |place| (number, place as u32);
-        let start = self.design.bad_start().map(at(4));
-        start
-            .or_else(|| self.design.bad_row().map(at(5)))
-            .or_else(|| self.bad_number().map(at(6)))
+        self.design.refused_content(&self.targets)
     }
 }

@@ -15,7 +15,7 @@ const SETTING_REFUSED: u32 = 2;
 
 impl Penalty {
     /// Comparisons of doubles: a NaN is outside, -0.0 counts as 0.
-    fn in_range(&self) -> bool {
+    pub fn in_range(&self) -> bool {
         let alpha = self.alpha.is_finite() && self.alpha >= 0.0;
         alpha
             && match self.kind {

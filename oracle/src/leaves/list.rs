@@ -47,5 +47,6 @@ fn part(code: u32, cases: usize, random: &mut Random) -> Part {
         code,
         records,
         remark: format!("{special} built from specials"),
+        details: Vec::new(),
     }
 }

@@ -60,7 +60,7 @@ pub enum Leaf {
 pub const SIZES: std::ops::RangeInclusive<u32> = 1..=10;
 
 impl Penalty {
-    fn words(&self) -> Vec<Word> {
+    pub fn words(&self) -> Vec<Word> {
         vec![
             Word::Count(self.kind as u32),
             Word::Double(self.alpha),
@@ -68,7 +68,7 @@ impl Penalty {
         ]
     }
 
-    fn read(reader: &mut Reader) -> Result<Penalty, String> {
+    pub fn read(reader: &mut Reader) -> Result<Penalty, String> {
         let kind = match reader.count()? {
             0 => Kind::L1,
             1 => Kind::L1PlusL2,

@@ -8,16 +8,6 @@ use Rattle.doubles.specs.Steps.{sum as total}
 use Rattle.doubles.proofs.Laws.Steps.{steps-none, steps-more, steps-all}
 use Rattle.columns.specs.RowFit.{rowFit}
 use native.Mathlib.Omega.{arith}
--- `row_fit`: the invariant is the sum over the features passed. Assumes nothing.
-use mathlib.Core.Path.{_≡_}
-use Prim.Native.Nat.{_≤_, _<_, _-_, _+_}
-use lib.ListN.{length, getD}
-use denote.Ref.{now}
-use Rattle.doubles.specs.Num.{_⊗_, at}
-use Rattle.doubles.specs.Steps.{sum as total}
-use Rattle.doubles.proofs.Laws.Steps.{steps-none, steps-more, steps-all}
-use Rattle.columns.specs.RowFit.{rowFit}
-use native.Mathlib.Omega.{arith}
 use borrow.Author.Needs.{needs}
 use Rattle.columns.proofs.row_fit.Statement.{statement}
 use Rattle.columns.proofs.row_fit.Tie as tie

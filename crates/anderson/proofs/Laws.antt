@@ -1,0 +1,5 @@
+-- Laws on the definitions of the extrapolation.
+pub mod System
+pub mod Scratch
+pub mod Tries
+pub mod Step

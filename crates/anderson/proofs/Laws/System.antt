@@ -1,0 +1,68 @@
+-- The system's rows are arrays of a fixed size that start as zeros: a loop writes the first places, and the rest stays. Also where a kept row
+-- lies. Assumes nothing.
+use mathlib.Core.Path.{_≡_, refl, sym, ap, _∙_}
+use Prim.Native.Nat.{ℕ, zero, suc, _+_, _-_, _*_, _≤_, _<_}
+use native.Mathlib.Nat.{le-antisymm, le-refl, le-trans, le-of-eq, add-zero, mul-le-mul}
+use native.Mathlib.Omega.{arith}
+use mathlib.Core.List.{List, [], _∷_, _++_, append-assoc, append-nil}
+use lib.Dec.{ltb, eqb}
+use lib.ListN.{length, getD, set, drop, replicate, length-replicate, getD-replicate, drop-of-length-le}
+use lib.Seq.{drop-cons}
+use lib.Ieee.{Float, nan}
+use borrow.Author.Tests.{lt-ltb, le-ltb, eq-eqb, ne-eqb}
+use Rattle.doubles.specs.Num.{#0, #1, at, pick}
+use Rattle.doubles.specs.Steps.{steps, tab}
+use Rattle.doubles.proofs.Laws.Steps.{tab-more, tab-same}
+use Rattle.designs.proofs.Laws.Layouts.{cell}
+
+-- ---- places of what is kept
+pub later : (K p k a len : ℕ) → k < K → a < p → suc K * p ≤ len → (k + 1) * p + a < len
+later K p k a len hk ha h = cell (suc K) p (k + 1) a len (omega arith) ha h
+
+pub sooner : (K p k a len : ℕ) → k < K → a < p → suc K * p ≤ len → k * p + a < len
+sooner K p k a len hk ha h = cell (suc K) p k a len (omega arith) ha h
+
+-- ---- a list of which the first places are written, and the others hold what the table has there
+module _ {A : Type 0} (g : ℕ → A) (l : List A) (d : A) where
+  tab-rest : (k i : ℕ) → length l ≡ i + k → ((j : ℕ) → i ≤ j → j < i + k → getD l j d ≡ g j) → tab g i ++ drop i l ≡ tab g (i + k)
+  unfolding steps
+  tab-rest zero i h e = rw (drop-of-length-le l {i = i} (omega arith), append-nil, add-zero)
+  tab-rest (suc k) i h e =
+      let n : suc i + k ≡ i + suc k = omega arith in
+      let v : getD l i d ≡ g i = e i (omega arith) (omega arith) in
+      let q : tab g (suc i) ++ drop (suc i) l ≡ tab g (suc i + k) = tab-rest k (suc i) (omega arith) (λ j a b. e j (omega arith) (omega arith)) in
+      rw (drop-cons l i d (omega arith), v) (sym (append-assoc (tab g i) (g i ∷ []) (drop (suc i) l)) ∙ q ∙ ap (tab g) n)
+
+  pub tab-filled : (i n : ℕ) → length l ≡ n → i ≤ n → ((j : ℕ) → i ≤ j → j < n → getD l j d ≡ g j) → tab g i ++ drop i l ≡ tab g n
+  tab-filled i n h k e =
+      let m : i + (n - i) ≡ n = omega arith in
+      tab-rest (n - i) i (h ∙ sym m) (λ j a b. e j a (omega arith)) ∙ ap (tab g) m
+
+-- zeros but for the first K places
+pub filled : {A : Type 0} (f : ℕ → A) (z : A) (n K i : ℕ) (row : List A) → K ≤ n → i ≤ K → K ≤ i → row ≡ tab f i ++ drop i (replicate n z)
+    → row ≡ tab (λ b. pick (ltb b K) (f b) z) n
+filled {A} f z n K i row h a b e =
+    let g : ℕ → A = λ b. pick (ltb b K) (f b) z in
+    let same : tab f K ≡ tab g K = tab-same f g K (λ j l. rw (lt-ltb j K l)) in
+    (rw (le-antisymm a b) at e)
+    ∙ ap (λ (t : List A). t ++ drop K (replicate n z)) same
+    ∙ tab-filled g (replicate n z) z K n (length-replicate n z) h (λ j l m. getD-replicate n j z z m ∙ rw (le-ltb j K l))
+
+-- the same with 1 at place K: a row of the system
+pub row-done : (f : ℕ → Float) (K i : ℕ) (row : List Float) → K ≤ 10 → i ≤ K → K ≤ i → row ≡ tab f i ++ drop i (replicate 11 #0)
+    → set row K #1 ≡ tab (λ b. pick (ltb b K) (f b) (pick (eqb b K) #1 #0)) 11
+row-done f K i row h a b e =
+    let g : ℕ → Float = λ b. pick (ltb b K) (f b) (pick (eqb b K) #1 #0) in
+    let l = replicate 11 #0 in
+    let same : tab f K ≡ tab g K = tab-same f g K (λ j k. rw (lt-ltb j K k)) in
+    let q : row ≡ tab g K ++ drop K l = (rw (le-antisymm a b) at e) ∙ ap (λ (t : List Float). t ++ drop K l) same in
+    let here : #1 ≡ g K = rw (le-ltb K K (le-refl K), eq-eqb K K refl) in
+    tab-more g l row K q #1 (omega (arith, length-replicate 11 #0)) here
+    ∙ tab-filled g l nan (K + 1) 11 refl (omega arith) (λ j k m. getD-replicate 11 j #0 nan m ∙ rw (le-ltb j K (omega arith), ne-eqb j K (λ x. omega (arith, x))))
+
+-- ---- places are small
+pub places-small : (K p : ℕ) → K ≤ 10 → p ≤ 8192 → (2 * K + 4) * p ≤ 196608
+places-small K p h k = let a : 2 * K + 4 ≤ 24 = omega arith in le-trans (mul-le-mul a k) (le-of-eq refl)
+
+pub rows-small : (K p : ℕ) → K ≤ 10 → p ≤ 8192 → (K + 1) * p ≤ 90112
+rows-small K p h k = let a : K + 1 ≤ 11 = omega arith in le-trans (mul-le-mul a k) (le-of-eq refl)

@@ -1,0 +1,99 @@
+-- From what the parts of the step answer to the definitions. Assumes nothing.
+use mathlib.Core.Path.{_≡_, ap, _∙_}
+use Prim.Native.Nat.{ℕ, suc, _+_, _%_, _≤_, _<_}
+use native.Mathlib.Numerals.{add-one}
+use mathlib.Core.List.{List}
+use lib.ListN.{length, getD, set, take}
+use lib.Ieee.{Float}
+use borrow.Author.Tests.{eq-eqb, ne-eqb, le-leb, lt-leb}
+use Rattle.doubles.specs.Num.{#0, _and_}
+use Rattle.doubles.specs.Steps.{steps, tab}
+use Rattle.doubles.proofs.Laws.Steps.{steps-all}
+use Rattle.leaves.specs.Answer.{solutionOf, endingOf, Outcome, Ended, answered, solved, singular}
+use Rattle.leaves.specs.Elimination.{solveCall}
+use Rattle.leaves.specs.declared.utils.helpers.Solution.{Solution}
+use Rattle.leaves.specs.declared.utils.helpers.Ending.{Ending}
+use Rattle.leaves.specs.declared.utils.helpers.Ending.the-variants as Ending
+use Rattle.leaves.specs.declared.Refusal.{Refusal}
+use Rattle.leaves.specs.declared.penalties.separable.Penalty.{Penalty}
+use Rattle.designs.specs.declared.Shape.{Shape}
+use Rattle.designs.specs.Design.{extrapolated}
+use Rattle.runs.specs.Epoch.{Task, Point}
+use Rattle.runs.specs.Extrapolation as ext
+use Rattle.runs.specs.Extrapolation.{Tried, keeps, combined, candidate, coefficients, system, objectiveOf, better, chosen, extrapolate, fromSolution, due, tried}
+use Rattle.anderson.specs.Places.{pointOf, chosenBy, triedFrom, taskHere, keptIn, Ready}
+
+-- all places of the working set written, over zeros
+pub candidate-done : (K p : ℕ) (ws : List ℕ) (kept c u w : List Float) (n i : ℕ) → u ≡ tab (λ j. #0) n → n ≡ p
+    → w ≡ steps (λ k v. set v (getD ws k 0) (combined K p kept c k)) i u → i ≤ length ws → length ws ≤ i → w ≡ candidate K p ws kept c
+unfolding candidate
+candidate-done K p ws kept c u w n i e h q a b =
+    let f : ℕ → List Float → List Float = λ k v. set v (getD ws k 0) (combined K p kept c k) in
+    steps-all f (tab (λ j. #0) p) i (length ws) w (q ∙ ap (steps f i) (e ∙ ap (tab (λ j. #0)) h)) a b
+
+-- the choice, from what was found in the scratch
+pub tried-from : (T : Task) (y : List Float) (K : ℕ) (ws : List ℕ) (kept z c w₀ fit₀ w new old : List Float) (before : Float) (r : Tried)
+    → r ≡ chosenBy (T .penalty) y before (pointOf w new) (pointOf old fit₀) → before ≡ objectiveOf (T .penalty) y w₀ fit₀
+    → new ≡ extrapolated (T .X) ws w → old ≡ w₀ → w ≡ candidate K (T .p) ws kept c → c ≡ coefficients K z
+    → r ≡ triedFrom T y K ws kept z (pointOf w₀ fit₀)
+unfolding chosenBy triedFrom chosen better ext.pointOf
+tried-from T y K ws kept z c w₀ fit₀ w new old before r e eb en eo ew ec = e ∙ rw (eb, en, eo, ew, ec)
+
+-- ---- by the ending of the elimination
+module _ (T : Task) (y : List Float) (K : ℕ) (ws : List ℕ) (k kept : List Float) (s : Point) (m : List (List Float)) (x : Solution)
+    (ek : k ≡ kept) (em : m ≡ system K (T .p) k) (ex : solutionOf x ≡ solveCall K m) where
+  same : solutionOf x ≡ solveCall K (system K (T .p) kept)
+  same = ex ∙ rw (em, ek)
+
+  by-ending : (o : Outcome Ended) → endingOf (x .ending) ≡ o → fromSolution T y K ws kept s o (x .z) ≡ extrapolate T y K ws kept s
+  unfolding extrapolate
+  by-ending o h = rw (← same, h)
+
+  pub from-solved : x .ending ≡ Ending.Solved → (r : Tried) → r ≡ triedFrom T y K ws kept (x .z) s → r ≡ extrapolate T y K ws kept s
+  unfolding triedFrom
+  from-solved h r e = e ∙ by-ending (answered solved) (ap endingOf h)
+
+  pub from-singular : x .ending ≡ Ending.Singular → keeps s ≡ extrapolate T y K ws kept s
+  from-singular h = by-ending (answered singular) (ap endingOf h)
+
+  pub from-refused : (q : Refusal) → x .ending ≡ Ending.Refused q → keeps s ≡ extrapolate T y K ws kept s
+  from-refused q h = by-ending _ (ap endingOf h)
+
+-- ---- whether the step is due
+module _ (T : Task) (y : List Float) (K e : ℕ) (ws : List ℕ) (kept : List Float) (s : Point) where
+  pub not-last : (e % (K + 1) ≡ K → ⊥) → keeps s ≡ tried T y K e ws kept s
+  unfolding tried due _and_
+  not-last h = rw (ne-eqb (e % suc K) K (rw add-one at h))
+
+  pub too-few : e % (K + 1) ≡ K → length ws < K → keeps s ≡ tried T y K e ws kept s
+  unfolding tried due _and_
+  too-few h l = rw (eq-eqb (e % suc K) K (rw add-one at h), lt-leb K (length ws) l)
+
+  is-due : e % (K + 1) ≡ K → K ≤ length ws → (r : Tried) → r ≡ extrapolate T y K ws kept s → r ≡ tried T y K e ws kept s
+  unfolding tried due _and_
+  is-due h l r q = rw (eq-eqb (e % suc K) K (rw add-one at h), le-leb K (length ws) l) q
+
+-- from a scratch in which a row was written
+pub due-here : (s : Shape) (starts rows : List ℕ) (values : List Float) (penalty : Penalty) (y : List Float) (K e : ℕ) (ws : List ℕ) (l m kept : List Float)
+    (x : Point) → take (s .p + s .p) m ≡ take (s .p + s .p) l → keptIn s K m ≡ kept → e % (K + 1) ≡ K → K ≤ length ws
+    → (r : Tried) → r ≡ extrapolate (taskHere s starts rows values penalty m) y K ws (keptIn s K m) x
+    → r ≡ tried (taskHere s starts rows values penalty l) y K e ws kept x
+due-here s starts rows values penalty y K e ws l m kept x hp hk h k r q =
+    is-due (taskHere s starts rows values penalty l) y K e ws kept x h k r (q ∙ rw (hp, hk))
+
+-- and it is as ready
+pub ready-again : {s : Shape} {starts rows : List ℕ} {values y : List Float} {K : ℕ} {ws : List ℕ} {w fit l : List Float} (m : List Float)
+    → Ready s starts rows values y K ws w fit l → length m ≡ length l → Ready s starts rows values y K ws w fit m
+ready-again m r h = record {
+  whole = r .whole;
+  samples = r .samples;
+  features = r .features;
+  deep = r .deep;
+  shallow = r .shallow;
+  targets = r .targets;
+  weights = r .weights;
+  fits = r .fits;
+  room = h ∙ r .room;
+  few = r .few;
+  below = r .below;
+}

@@ -1,0 +1,95 @@
+-- `try_candidate`: the candidate and its fit are made, and the choice reads both points. Assumes nothing.
+use native.Mathlib.Omega.{arith}
+use Rattle.anderson.proofs.Laws.System.{places-small}
+use Rattle.anderson.proofs.Laws.Step.{choose-asks, chosen-here}
+use borrow.Author.Needs.{needs}
+use Rattle.anderson.proofs.try_candidate.Statement.{statement}
+use Rattle.anderson.proofs.try_candidate.Tie as tie
+
+lay-out-requires : tie.Need-lay-out-requires
+lay-out-requires c κs = search needs
+
+coefficients-requires : tie.Need-coefficients-requires
+coefficients-requires c κs = search needs
+
+objective-requires : tie.Need-objective-requires
+objective-requires c κs = search needs
+
+make-candidate-requires : tie.Need-make-candidate-requires
+make-candidate-requires c κs = search needs
+
+mul-choose : tie.Need-mul-choose
+mul-choose c = let h = places-small _ _ (c .before .before .before .before .before .before .before .before .before .before .before .before .before .before .before .before .before .before .before .before .pre .shallow) (c .before .before .before .before .before .before .before .before .before .before .before .before .before .before .before .before .before .before .before .before .pre .features) in omega arith
+
+sub-choose : tie.Need-sub-choose
+sub-choose c = search needs
+
+part-choose-start : tie.Need-part-choose-start
+part-choose-start c = search needs
+
+part-choose-end : tie.Need-part-choose-end
+part-choose-end c = search needs
+
+mul-choose-2 : tie.Need-mul-choose-2
+mul-choose-2 c = let h = places-small _ _ (c .before .before .before .before .before .before .before .before .before .before .before .before .before .before .before .before .before .before .before .before .before .before .pre .shallow) (c .before .before .before .before .before .before .before .before .before .before .before .before .before .before .before .before .before .before .before .before .before .before .pre .features) in omega arith
+
+sub-choose-2 : tie.Need-sub-choose-2
+sub-choose-2 c = search needs
+
+part-choose-start-2 : tie.Need-part-choose-start-2
+part-choose-start-2 c = search needs
+
+part-choose-end-2 : tie.Need-part-choose-end-2
+part-choose-end-2 c = search needs
+
+choose-requires : tie.Need-choose-requires
+choose-requires c κs =
+    choose-asks _ _ _ _ _ _ _ _ _ _
+    (c .before .before .before .before .before .before .before .before .before .make-candidate .last .1 .1 .1 .1 .1 .1 .1 .0)
+    (c .before .before .before .before .before .before .before .before .before .make-candidate .last .1 .1 .1 .1 .1 .1 .1 .1 .0)
+    _ _ _ _ _
+    (c .before .before .before .before .before .before .before .before .before .before .before .before .before .before .before .before .before .before .before .before .before .before .before .before .before .pre)
+    (c .before .before .before .before .before .before .before .before .before .before .before .before .before .before .before .before .lay-out .ensures)
+    (c .before .before .before .before .before .before .before .before .before .make-candidate .kept .1 .1 .1 .1 .1 .1 .1 .0)
+    (c .before .before .before .before .before .before .before .before .before .make-candidate .kept .1 .1 .1 .1 .1 .1 .1 .1 .0)
+
+same-length : tie.Need-same-length
+same-length c = search needs
+
+same-length-2 : tie.Need-same-length-2
+same-length-2 c = search needs
+
+same-length-3 : tie.Need-same-length-3
+same-length-3 c = search needs
+
+returns : tie.Need-returns
+returns c =
+    chosen-here _ _ _ _ _ _ _ _ _ _ _ _ _ _ _ _ _ _ _ _ _ _
+    (c .before .before .before .before .before .before .before .before .before .before .before .before .before .before .before .before .before .before .before .before .before .before .before .before .before .before .before .before .before .before .pre)
+    (c .before .before .before .before .before .before .before .before .before .before .before .before .before .before .before .before .before .before .before .before .before .lay-out .ensures)
+    (c .before .before .before .before .before .before .before .before .before .before .before .before .before .before .make-candidate .ensures)
+    (c .before .before .before .before .before .before .before .before .before .before .before .before .before .before .before .before .before .objective .ensures)
+    (c .before .before .before .before .before .before .before .before .before .before .before .before .before .before .before .before .before .before .before .before .coefficients .ensures)
+    (c .before .before .before .before .choose .ensures)
+
+pub try-candidate-spec : {M : Type 1} → statement M
+try-candidate-spec =
+    tie.close
+    (tie.spec
+    lay-out-requires
+    coefficients-requires
+    objective-requires
+    make-candidate-requires
+    mul-choose
+    sub-choose
+    part-choose-start
+    part-choose-end
+    mul-choose-2
+    sub-choose-2
+    part-choose-start-2
+    part-choose-end-2
+    choose-requires
+    same-length
+    same-length-2
+    same-length-3
+    returns)

@@ -1,0 +1,6 @@
+-- What a reader believes of a whole call: document 01's sections "Working set, extrapolation, loops" and "Refusal numbers".
+pub mod WorkingSet
+pub mod Epoch
+pub mod Extrapolation
+pub mod Run
+pub mod Call

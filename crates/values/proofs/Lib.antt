@@ -1,0 +1,2 @@
+-- The claim that the table carries.
+pub mod Right

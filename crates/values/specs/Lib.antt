@@ -1,0 +1,2 @@
+-- What a reader believes of the table of values.
+pub mod Table

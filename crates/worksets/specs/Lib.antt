@@ -1,0 +1,2 @@
+-- What a reader believes of working sets.
+pub mod Call

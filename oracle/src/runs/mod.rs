@@ -1,0 +1,158 @@
+//! Whole runs of the coordinate descent, and the working set by itself. This
+//! file holds their cases as records have them; `rules` holds document 01's
+//! refusals, `watch` what is seen of a run, `outcome` how a run ends.
+
+mod answers;
+mod cases;
+mod corners;
+mod faults;
+mod list;
+mod outcome;
+mod problems;
+mod rules;
+mod sets;
+mod watch;
+
+pub use corners::{named, LAYOUTS};
+pub use list::LIST;
+pub use outcome::{outcome, Outcome};
+pub use watch::{Report, Watch};
+
+use crate::designs::Design;
+use crate::leaves::Penalty;
+use crate::words::{counted, counted_indices, Reader, Word};
+
+/// In or out of their ranges.
+#[derive(Clone, Debug)]
+pub struct Settings {
+    pub penalty: Penalty,
+    pub tolerance: f64,
+    pub start: u32,
+    pub iterations: u32,
+    pub epochs: u32,
+    pub extrapolate: bool,
+    pub depth: u32,
+}
+
+/// The lengths of the lent buffers; what they hold makes no difference to a fit.
+#[derive(Clone, Copy, Debug, Default)]
+pub struct Lent {
+    pub weights: u32,
+    pub fit: u32,
+    pub indices: u32,
+    pub scratch: u32,
+}
+
+/// A whole run.
+#[derive(Clone, Debug)]
+pub struct FitCase {
+    pub design: Design,
+    pub targets: Vec<f64>,
+    pub settings: Settings,
+    pub lent: Lent,
+}
+
+/// The working set of given weights and violations.
+#[derive(Clone, Debug)]
+pub struct SetCase {
+    weights: Vec<f64>,
+    violations: Vec<f64>,
+    start: u32,
+    /// The lent buffer as it is before the call.
+    indices: Vec<u32>,
+}
+
+impl Settings {
+    fn words(&self) -> Vec<Word> {
+        let mut words = self.penalty.words();
+        words.push(Word::Double(self.tolerance));
+        let extrapolate = u32::from(self.extrapolate);
+        let counts = [self.start, self.iterations, self.epochs, extrapolate];
+        words.extend(counts.map(Word::Count));
+        words.push(Word::Count(self.depth));
+        words
+    }
+
+    fn read(reader: &mut Reader) -> Result<Settings, String> {
+        Ok(Settings {
+            penalty: Penalty::read(reader)?,
+            tolerance: reader.double()?,
+            start: reader.count()?,
+            iterations: reader.count()?,
+            epochs: reader.count()?,
+            extrapolate: match reader.count()? {
+                0 => false,
+                1 => true,
+                other => return Err(format!("extrapolate is 0 or 1, not {other:x}")),
+            },
+            depth: reader.count()?,
+        })
+    }
+}
+
+impl Lent {
+    fn words(&self) -> Vec<Word> {
+        let lengths = [self.weights, self.fit, self.indices, self.scratch];
+        lengths.map(Word::Count).to_vec()
+    }
+
+    fn read(reader: &mut Reader) -> Result<Lent, String> {
+        Ok(Lent {
+            weights: reader.count()?,
+            fit: reader.count()?,
+            indices: reader.count()?,
+            scratch: reader.count()?,
+        })
+    }
+}
+
+impl FitCase {
+    pub const CODE: u32 = 0x20;
+
+    fn input_words(&self) -> Vec<Word> {
+        [
+            self.design.words(),
+            counted(&self.targets),
+            self.settings.words(),
+            self.lent.words(),
+        ]
+        .concat()
+    }
+
+    /// A case that the Rust has no answer to is not read.
+    pub fn read(reader: &mut Reader) -> Result<FitCase, String> {
+        let case = FitCase {
+            design: Design::read(reader)?,
+            targets: reader.counted()?,
+            settings: Settings::read(reader)?,
+            lent: Lent::read(reader)?,
+        };
+        if !case.comparable() {
+            return Err("the Rust stops where a working set has fewer than K places".into());
+        }
+        Ok(case)
+    }
+}
+
+impl SetCase {
+    pub const CODE: u32 = 0x21;
+
+    fn input_words(&self) -> Vec<Word> {
+        [
+            counted(&self.weights),
+            counted(&self.violations),
+            vec![Word::Count(self.start)],
+            counted_indices(&self.indices),
+        ]
+        .concat()
+    }
+
+    pub fn read(reader: &mut Reader) -> Result<SetCase, String> {
+        Ok(SetCase {
+            weights: reader.counted()?,
+            violations: reader.counted()?,
+            start: reader.count()?,
+            indices: reader.counted_indices()?,
+        })
+    }
+}

@@ -1,0 +1,253 @@
+//! What is seen of a run. The Rust gives back nothing but the weights, so its
+//! design, datafit and penalty are wrapped (`calls/runs.rs`), and the wrappers
+//! tell the watch what the Rust asked and what it was answered. The watch counts,
+//! keeps the point (weights and fit) as it must be by now, and ends the run by
+//! unwinding where a number is not finite. Whatever it takes for true is compared
+//! with what the Rust shows next, so that a wrong count can't pass unseen.
+
+use std::cell::RefCell;
+use std::panic::resume_unwind;
+
+/// Refusal 7, by the number that is not finite. Unwinding carries it.
+#[derive(Clone, Copy, Debug, PartialEq)]
+pub enum NotFinite {
+    Constant,
+    Inverse,
+    Product,
+    Gradient,
+    Violation,
+    Weight,
+    FitEntry,
+}
+
+/// What document 01 has a run report, but for the status.
+#[derive(Debug)]
+pub struct Report {
+    pub violation: f64,
+    pub iterations: u32,
+    pub epochs: u32,
+    pub extrapolations: u32,
+    pub weights: Vec<f64>,
+    pub fit: Vec<f64>,
+}
+
+#[derive(Clone)]
+struct Point {
+    weights: Vec<f64>,
+    fit: Vec<f64>,
+}
+
+/// A point that the extrapolation tries. Four values decide on it: datafit and
+/// penalty at the point where the run is, then both at the candidate.
+struct Candidate {
+    point: Point,
+    values: Vec<f64>,
+}
+
+struct Seen {
+    /// So many working sets are built at most.
+    iterations: u32,
+    /// Checks of all features, of which each but the last has built a working
+    /// set.
+    checks: u32,
+    /// The largest violation of the last of them.
+    violation: f64,
+    /// Epochs begun, in all and since the last check of all features.
+    epochs: u32,
+    epochs_of_set: u32,
+    /// Whether the working set was checked since this epoch began.
+    set_checked: bool,
+    extrapolations: u32,
+    /// Where the run is.
+    point: Point,
+    candidate: Option<Candidate>,
+    /// The feature of the last gradient: a new weight is that feature's.
+    feature: usize,
+}
+
+pub struct Watch(RefCell<Seen>);
+
+fn require(finite: bool, what: NotFinite) {
+    if !finite {
+        // Not a panic: nothing is printed.
+        resume_unwind(Box::new(what));
+    }
+}
+
+fn all_finite(numbers: &[f64]) -> bool {
+    numbers.iter().all(|x| x.is_finite())
+}
+
+/// Bit by bit: a zero of the other sign would be another point.
+fn same(expected: &[f64], shown: &[f64]) -> bool {
+    let bits = |numbers: &[f64]| numbers.iter().map(|x| x.to_bits()).collect::<Vec<_>>();
+    bits(expected) == bits(shown)
+}
+
+impl Point {
+    fn zero(samples: usize, features: usize) -> Point {
+        Point {
+            weights: vec![0.0; features],
+            fit: vec![0.0; samples],
+        }
+    }
+}
+
+impl Seen {
+    /// The point whose value is asked for: of the four values that decide on a
+    /// candidate the last two are the candidate's.
+    fn valued(&self) -> &Point {
+        match &self.candidate {
+            Some(candidate) if candidate.values.len() >= 2 => &candidate.point,
+            _ => &self.point,
+        }
+    }
+
+    /// The values between a candidate and the decision on it are these four and
+    /// no others: the Rust asks for them at once, in this order, and the value
+    /// that it takes at every tenth epoch comes after the decision. So adding
+    /// and comparing them as document 01 does tells how the Rust decides; the
+    /// points that it shows from then on are compared with that.
+    fn value(&mut self, value: f64) {
+        let Some(candidate) = &mut self.candidate else {
+            return;
+        };
+        candidate.values.push(value);
+        if let [datafit, penalty, its_datafit, its_penalty] = candidate.values[..] {
+            let candidate = self.candidate.take().expect("there is one");
+            if its_datafit + its_penalty < datafit + penalty {
+                self.accept(candidate.point);
+            }
+        }
+    }
+
+    /// Document 01 wants every entry to be finite too, which the Rust doesn't
+    /// ask: a point that isn't finite has no smaller objective.
+    fn accept(&mut self, point: Point) {
+        let finite = all_finite(&point.weights) && all_finite(&point.fit);
+        assert!(finite, "an accepted candidate is not finite");
+        self.extrapolations += 1;
+        self.point = point;
+    }
+
+    /// Whether this check is that of the working set. It comes in each epoch
+    /// whose number (from 0) is a positive multiple of 10, once and always, and
+    /// before any check of all features; the features themselves don't tell,
+    /// since the working set may be all of them.
+    fn checks_set(&self) -> bool {
+        let epoch = self.epochs_of_set.saturating_sub(1);
+        epoch > 0 && epoch.is_multiple_of(10) && !self.set_checked
+    }
+}
+
+impl Watch {
+    pub fn new(iterations: u32, samples: usize, features: usize) -> Watch {
+        Watch(RefCell::new(Seen {
+            iterations,
+            checks: 0,
+            violation: f64::NAN,
+            epochs: 0,
+            epochs_of_set: 0,
+            set_checked: false,
+            extrapolations: 0,
+            point: Point::zero(samples, features),
+            candidate: None,
+            feature: 0,
+        }))
+    }
+
+    /// All columns first, whether there are iterations or not.
+    pub fn initialized(&self, constants: &[f64], products: &[f64]) {
+        require(all_finite(constants), NotFinite::Constant);
+        let mut nonzero = constants.iter().filter(|&&constant| constant != 0.0);
+        let inverses = nonzero.all(|constant| (1.0 / constant).is_finite());
+        require(inverses, NotFinite::Inverse);
+        require(all_finite(products), NotFinite::Product);
+    }
+
+    /// The Rust asks for the constants once in each epoch, at its beginning.
+    pub fn epoch(&self) {
+        let mut seen = self.0.borrow_mut();
+        seen.epochs += 1;
+        seen.epochs_of_set += 1;
+        seen.set_checked = false;
+    }
+
+    pub fn gradient(&self, feature: usize, fit: &[f64], gradient: f64) {
+        let mut seen = self.0.borrow_mut();
+        assert!(same(&seen.point.fit, fit), "the gradient's fit is another");
+        require(gradient.is_finite(), NotFinite::Gradient);
+        seen.feature = feature;
+    }
+
+    /// A visit asks for the gradient and then, at once, for the new weight.
+    pub fn weight(&self, weight: f64) {
+        require(weight.is_finite(), NotFinite::Weight);
+        let mut seen = self.0.borrow_mut();
+        let feature = seen.feature;
+        seen.point.weights[feature] = weight;
+    }
+
+    /// Entries that were not changed are finite already.
+    pub fn changed_fit(&self, fit: Vec<f64>) {
+        require(all_finite(&fit), NotFinite::FitEntry);
+        self.0.borrow_mut().point.fit = fit;
+    }
+
+    pub fn candidate(&self, weights: Vec<f64>, fit: Vec<f64>) {
+        self.0.borrow_mut().candidate = Some(Candidate {
+            point: Point { weights, fit },
+            values: Vec::new(),
+        });
+    }
+
+    pub fn datafit(&self, fit: &[f64], value: f64) {
+        let mut seen = self.0.borrow_mut();
+        assert!(same(&seen.valued().fit, fit), "the value's fit is another");
+        seen.value(value);
+    }
+
+    pub fn penalty(&self, weights: &[f64], value: f64) {
+        let mut seen = self.0.borrow_mut();
+        let expected = &seen.valued().weights;
+        assert!(same(expected, weights), "the value's weights are others");
+        seen.value(value);
+    }
+
+    /// Takes a check with its largest violation and says which largest the Rust
+    /// is told. It runs with one iteration more than it may make: the check that
+    /// begins it is document 01's last one, and minus infinity, which no
+    /// tolerance exceeds, ends the run there.
+    pub fn check(&self, weights: &[f64], violations: &[f64], largest: f64) -> f64 {
+        let mut seen = self.0.borrow_mut();
+        let expected = &seen.point.weights;
+        assert!(same(expected, weights), "the check's weights are others");
+        require(all_finite(violations), NotFinite::Violation);
+        if seen.checks_set() {
+            seen.set_checked = true;
+            return largest;
+        }
+        seen.checks += 1;
+        seen.epochs_of_set = 0;
+        seen.violation = largest;
+        if seen.checks > seen.iterations {
+            return f64::NEG_INFINITY;
+        }
+        largest
+    }
+
+    /// After the run, with the weights that the Rust gives back.
+    pub fn report(self, weights: &[f64]) -> Report {
+        let seen = self.0.into_inner();
+        let expected = &seen.point.weights;
+        assert!(same(expected, weights), "the run's weights are others");
+        Report {
+            violation: seen.violation,
+            iterations: seen.checks - 1,
+            epochs: seen.epochs,
+            extrapolations: seen.extrapolations,
+            weights: seen.point.weights,
+            fit: seen.point.fit,
+        }
+    }
+}
