@@ -64,7 +64,7 @@ prepared X y = tab (lipschitz X) (X .p) ++ dots X y
 unfoldable pub gradient : Design → ℕ → List Float → Float → Float
 gradient X j fit q = (dot X j fit ⊖ q) ⊘ count (X .n)
 
--- of every feature, where qs is X'y
+-- of every feature, where q gives the entries of X'y
 unfoldable pub fullGradient : Design → List Float → (ℕ → Float) → List Float
 fullGradient X fit q = tab (λ j. gradient X j fit (q j)) (X .p)
 

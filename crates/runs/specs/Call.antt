@@ -1,6 +1,6 @@
 -- A whole call: "Refusals 1 to 6 .. change no lent buffer. Refusal 7 leaves the p weights, n fit entries and used scratch (all its room) at +0 and the p
 -- indices at 0. A completed run leaves used scratch and indices at zero too."
-use mathlib.Core.Bool.{Bool}
+use mathlib.Core.Bool.{Bool, true}
 use mathlib.Core.List.{List}
 use Prim.Native.Nat.{ℕ, _+_, _*_}
 use lib.Dec.{leb, eqb}
@@ -24,7 +24,7 @@ use Rattle.runs.specs.declared.Fit.the-variants as Fit
 -- ---- 2: "Outer iterations 0 to 1,000; epochs 0 to 100,000; start size 1 to 8,192 ..; Depth K is 1 to 10 when extrapolation is on and ignored when off.
 -- Tolerance and alpha are finite and at least 0"
 unfoldable pub depthLegal : Settings → Bool
-depthLegal S = pick (S .extrapolate) (leb 1 (S .depth) and leb (S .depth) 10) (leb 0 0)
+depthLegal S = pick (S .extrapolate) (leb 1 (S .depth) and leb (S .depth) 10) true
 
 unfoldable pub settingsLegal : Settings → Bool
 settingsLegal S =

@@ -9,7 +9,7 @@ use Rattle.doubles.specs.Num.{_⊗_, #0, pick, _and_, _or_}
 use Rattle.doubles.specs.Steps.{tab, Stage, going, stopped, bad, upto, andThen}
 use Rattle.runs.specs.WorkingSet.{smaller, workingSet}
 use Rattle.runs.specs.Epoch.{Task, Point, allKnown, violations, worst, knownIn, worstIn, visits}
-use Rattle.runs.specs.Extrapolation.{Tried, keptNow, tried}
+use Rattle.runs.specs.Extrapolation.{Tried, keptNow, keeps, tried}
 use Rattle.runs.specs.declared.Settings.{Settings}
 
 abbrev pub #0·3 : Float
@@ -31,7 +31,7 @@ unfoldable pub accelerated : Task → List Float → Settings → List ℕ → �
 accelerated T y S ws e s q =
     pick (S .extrapolate)
     (gained s (keptNow (S .depth) (T .p) e ws (q .weights) (s .kept)) (tried T y (S .depth) e ws (keptNow (S .depth) (T .p) e ws (q .weights) (s .kept)) q))
-    (gained s (s .kept) (record { point = q; taken = 0 }))
+    (gained s (s .kept) (keeps q))
 
 -- "with all p features chosen, stop the epochs if v ≤ tolerance; otherwise stop if v < 0.3·(outer violation)": < and not ≤
 unfoldable pub enough : Task → Settings → List ℕ → Float → Float → Bool

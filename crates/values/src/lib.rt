@@ -1,4 +1,1 @@
 // The table of document 01's values P1 to P10 and its one claim stand in specs/Table.antt and proofs/Right.antt; there is no code here.
-pub struct Nothing {
-    pub n: usize,
-}
