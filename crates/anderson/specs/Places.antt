@@ -58,16 +58,8 @@ pub record Sized (s : Shape) (starts rows : List ℕ) (values : List Float) (K :
   pub few : length ws ≤ s .p
   pub below : (k : ℕ) → k < length ws → getD ws k 0 < s .p
 
--- a design, targets, a working set and buffers that fit together, and a depth in its range
+-- and the targets and a fit with them
 pub record Ready (s : Shape) (starts rows : List ℕ) (values y : List Float) (K : ℕ) (ws : List ℕ) (w fit scratch : List Float) : Type 0 where
-  pub whole : Whole s starts rows values
-  pub samples : s .n ≤ 65536
-  pub features : s .p ≤ 8192
-  pub deep : 1 ≤ K
-  pub shallow : K ≤ 10
+  pub sized : Sized s starts rows values K ws w scratch
   pub targets : length y ≡ s .n
-  pub weights : length w ≡ s .p
   pub fits : length fit ≡ s .n
-  pub room : length scratch ≡ (2 * K + 5) * s .p + s .n
-  pub few : length ws ≤ s .p
-  pub below : (k : ℕ) → k < length ws → getD ws k 0 < s .p

@@ -51,9 +51,9 @@ pub choose-asks : (s : Shape) (starts rows : List ℕ) (values y : List Float) (
     → (length y ≤ 65536) × (length (take (e - f) (drop f m)) ≡ length y) × (length fit ≡ length (take (e - f) (drop f m)))
     × (length v ≡ length (take (f - o) (drop o m)))
 choose-asks s starts rows values y K ws w fit l v m a b o f e R at hv hm =
-    let old = old-long s K l m o f e (at .2) (at .3) (at .4) (R .room) hm in
-    let new = new-long s K l m o f e (at .2) (at .3) (at .4) (R .room) hm in
-    (le-trans (le-of-eq (R .targets)) (R .samples), new ∙ sym (R .targets), R .fits ∙ sym new, hv ∙ R .weights ∙ sym old)
+    let old = old-long s K l m o f e (at .2) (at .3) (at .4) (R .sized .room) hm in
+    let new = new-long s K l m o f e (at .2) (at .3) (at .4) (R .sized .room) hm in
+    (le-trans (le-of-eq (R .targets)) (R .sized .samples), new ∙ sym (R .targets), R .fits ∙ sym new, hv ∙ R .sized .weights ∙ sym old)
 
 -- `try_candidate`
 pub chosen-here : (s : Shape) (starts rows : List ℕ) (values : List Float) (penalty : Penalty) (y : List Float) (K : ℕ) (ws : List ℕ)
@@ -69,11 +69,11 @@ pub chosen-here : (s : Shape) (starts rows : List ℕ) (values : List Float) (pe
     × (take (3 * s .p) m ≡ take (3 * s .p) l)
 chosen-here s starts rows values penalty y K ws w fit l z c v m before a b o f e r R at q eb ec er =
     let x = extrapolated (design s starts rows values) ws v in
-    let new : take (e - f) (drop f m) ≡ x = both-fit s K l w x (R .weights) (q .2) (R .room) m o f e (q .1) (at .2) (at .3) (at .4) in
-    let old : take (f - o) (drop o m) ≡ w = both-old s K l w x (R .weights) (q .2) (R .room) m o f (q .1) (at .2) (at .3) in (
+    let new : take (e - f) (drop f m) ≡ x = both-fit s K l w x (R .sized .weights) (q .2) (R .sized .room) m o f e (q .1) (at .2) (at .3) (at .4) in
+    let old : take (f - o) (drop o m) ≡ w = both-old s K l w x (R .sized .weights) (q .2) (R .sized .room) m o f (q .1) (at .2) (at .3) in (
       tried-from (taskHere s starts rows values penalty l) y K ws (keptIn s K l) z c w fit v (take (e - f) (drop f m)) (take (f - o) (drop o m)) before r er eb new old (q .0) ec,
-      both-kept s K l w x (R .weights) (q .2) (R .room) m (q .1),
-      both-first s K l w x (R .weights) (q .2) (R .room) m (q .1),
+      both-kept s K l w x (R .sized .weights) (q .2) (R .sized .room) m (q .1),
+      both-first s K l w x (R .sized .weights) (q .2) (R .sized .room) m (q .1),
     )
 
 -- `anderson_accel`: the row is written
@@ -83,8 +83,8 @@ pub row-left : (s : Shape) (starts rows : List ℕ) (values y : List Float) (K j
     → (keptIn s K (putMid a (b - a) l ks) ≡ keptNow K (s .p) j ws w (keptIn s K l))
     × (take (3 * s .p) (putMid a (b - a) l ks) ≡ take (3 * s .p) l)
 row-left s starts rows values y K j ws w fit l ks a b o f e R at h q = (
-  row-kept s K l a b j (at .0) (at .1) (R .room) ks h ws w q,
-  row-first s K l a b j (at .0) (at .1) (R .room) ks h (3 * s .p) (le-refl (3 * s .p)),
+  row-kept s K l a b j (at .0) (at .1) (R .sized .room) ks h ws w q,
+  row-first s K l a b j (at .0) (at .1) (R .sized .room) ks h (3 * s .p) (le-refl (3 * s .p)),
 )
 
 -- and the step is not due

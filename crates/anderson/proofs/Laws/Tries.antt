@@ -85,15 +85,16 @@ due-here s starts rows values penalty y K e ws l m kept x hp hk h k r q =
 pub ready-again : {s : Shape} {starts rows : List ℕ} {values y : List Float} {K : ℕ} {ws : List ℕ} {w fit l : List Float} (m : List Float)
     → Ready s starts rows values y K ws w fit l → length m ≡ length l → Ready s starts rows values y K ws w fit m
 ready-again m r h = record {
-  whole = r .whole;
-  samples = r .samples;
-  features = r .features;
-  deep = r .deep;
-  shallow = r .shallow;
+  sized = record {
+    whole = r .sized .whole;
+    samples = r .sized .samples;
+    features = r .sized .features;
+    shallow = r .sized .shallow;
+    weights = r .sized .weights;
+    room = h ∙ r .sized .room;
+    few = r .sized .few;
+    below = r .sized .below;
+  };
   targets = r .targets;
-  weights = r .weights;
   fits = r .fits;
-  room = h ∙ r .room;
-  few = r .few;
-  below = r .below;
 }

@@ -21,7 +21,7 @@ lay-out-requires : tie.Need-lay-out-requires
 lay-out-requires c κs = search needs
 
 mul-keep : tie.Need-mul-keep
-mul-keep c = let h = row-small (c .before .before .before .before .before .before .before .before .before .before .before .args .e) _ _ (c .before .before .before .before .before .before .before .before .before .before .before .pre .shallow) (c .before .before .before .before .before .before .before .before .before .before .before .pre .features) in omega arith
+mul-keep c = let h = row-small (c .before .before .before .before .before .before .before .before .before .before .before .args .e) _ _ (c .before .before .before .before .before .before .before .before .before .before .before .pre .sized .shallow) (c .before .before .before .before .before .before .before .before .before .before .before .pre .sized .features) in omega arith
 
 mul-keep-2 : tie.Need-mul-keep-2
 mul-keep-2 c = search needs
@@ -37,12 +37,12 @@ part-keep-end c = search needs
 
 keep-requires : tie.Need-keep-requires
 keep-requires c κs = (
-  λ k h. rw (c .before .before .before .before .before .before .before .before .before .before .before .before .pre .weights) (c .before .before .before .before .before .before .before .before .before .before .before .before .pre .below k h),
+  λ k h. rw (c .before .before .before .before .before .before .before .before .before .before .before .before .pre .sized .weights) (c .before .before .before .before .before .before .before .before .before .before .before .before .pre .sized .below k h),
   row-room (c .before .before .before .before .before .before .before .before .before .before .before .before .args .shape) (c .before .before .before .before .before .before .before .before .before .before .before .before .args .depth) (now (c .before .before .before .before .before .before .before .before .before .before .before .before .args .scratch)) _ _ (c .before .before .before .before .before .before .before .before .before .before .before .before .args .e)
       (c .before .before .before .lay-out .ensures .0)
       (c .before .before .before .lay-out .ensures .1)
-      (c .before .before .before .before .before .before .before .before .before .before .before .before .pre .room) _
-      (c .before .before .before .before .before .before .before .before .before .before .before .before .pre .few),
+      (c .before .before .before .before .before .before .before .before .before .before .before .before .pre .sized .room) _
+      (c .before .before .before .before .before .before .before .before .before .before .before .before .pre .sized .few),
 )
 
 same-length : tie.Need-same-length
@@ -85,7 +85,7 @@ extrapolate-requires c κs = (
       (now (c .before .before .before .before .before .before .before .before .before .before .before .before .before .before .before .before .before .before .before .before .args .scratch))
       (c .before .before .before .before .before .before .before .keep .last .1 .1 .1 .0)
       (c .before .before .before .before .before .before .before .keep .kept .1 .1 .1 .0)),
-  le-trans (c .before .before .before .if2 .taken) (c .before .before .before .before .before .before .before .before .before .before .before .before .before .before .before .before .before .before .before .before .pre .few),
+  le-trans (c .before .before .before .if2 .taken) (c .before .before .before .before .before .before .before .before .before .before .before .before .before .before .before .before .before .before .before .before .pre .sized .few),
 )
 
 same-length-5 : tie.Need-same-length-5

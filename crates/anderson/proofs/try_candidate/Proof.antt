@@ -19,7 +19,7 @@ make-candidate-requires : tie.Need-make-candidate-requires
 make-candidate-requires c κs = search needs
 
 mul-choose : tie.Need-mul-choose
-mul-choose c = let h = places-small _ _ (c .before .before .before .before .before .before .before .before .before .before .before .before .before .before .before .before .before .before .before .before .pre .shallow) (c .before .before .before .before .before .before .before .before .before .before .before .before .before .before .before .before .before .before .before .before .pre .features) in omega arith
+mul-choose c = let h = places-small _ _ (c .before .before .before .before .before .before .before .before .before .before .before .before .before .before .before .before .before .before .before .before .pre .sized .shallow) (c .before .before .before .before .before .before .before .before .before .before .before .before .before .before .before .before .before .before .before .before .pre .sized .features) in omega arith
 
 sub-choose : tie.Need-sub-choose
 sub-choose c = search needs
@@ -31,7 +31,7 @@ part-choose-end : tie.Need-part-choose-end
 part-choose-end c = search needs
 
 mul-choose-2 : tie.Need-mul-choose-2
-mul-choose-2 c = let h = places-small _ _ (c .before .before .before .before .before .before .before .before .before .before .before .before .before .before .before .before .before .before .before .before .before .before .pre .shallow) (c .before .before .before .before .before .before .before .before .before .before .before .before .before .before .before .before .before .before .before .before .before .before .pre .features) in omega arith
+mul-choose-2 c = let h = places-small _ _ (c .before .before .before .before .before .before .before .before .before .before .before .before .before .before .before .before .before .before .before .before .before .before .pre .sized .shallow) (c .before .before .before .before .before .before .before .before .before .before .before .before .before .before .before .before .before .before .before .before .before .before .pre .sized .features) in omega arith
 
 sub-choose-2 : tie.Need-sub-choose-2
 sub-choose-2 c = search needs
@@ -40,7 +40,7 @@ part-choose-start-2 : tie.Need-part-choose-start-2
 part-choose-start-2 c = search needs
 
 part-choose-end-2 : tie.Need-part-choose-end-2
-part-choose-end-2 c = search needs
+part-choose-end-2 c = search (needs, c .before .before .before .before .before .before .before .before .before .before .before .before .before .before .before .before .before .before .before .before .before .before .pre .sized .room)
 
 choose-requires : tie.Need-choose-requires
 choose-requires c κs =
