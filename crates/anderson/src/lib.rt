@@ -12,11 +12,11 @@ ghost use Rattle.designs.specs.Sound.{Whole};
 ghost use Rattle.runs.specs.Epoch.{task};
 ghost use Rattle.runs.specs.Extrapolation as ext;
 ghost use Rattle.anderson.specs.Places as places;
+use columns::all_finite;
 use columns::clear;
 use columns::extrapolated_fit;
 use datafits::inner::value as datafit_value;
 use designs::Shape;
-use doubles::is_finite;
 use leaves::penalties::inner::value as penalty_value;
 use leaves::penalties::separable::Penalty;
 use leaves::utils::helpers::Ending;
@@ -148,19 +148,6 @@ fn objective(y: &[f64], penalty: Penalty, w: &[f64], fit: &[f64]) -> f64
     ensures { λ r. ⌜ r ≡ ext.objectiveOf penalty (now (y .entry)) (now (w .entry)) (now (fit .entry)) ⌝ }
 {
     datafit_value(y, fit) + penalty_value(penalty, w)
-}
-
-fn all_finite(xs: &[f64]) -> bool
-    ensures { λ r. ⌜ r ≡ ext.allFinite (now (xs .entry)) ⌝ }
-{
-    let mut i = 0;
-    while i < xs.len() {
-        if is_finite(xs[i]) {} else {
-            return false;
-        }
-        i += 1;
-    }
-    true
 }
 
 // Strictly smaller objective, and finite.

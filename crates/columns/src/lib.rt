@@ -3,8 +3,8 @@
 ghost use mathlib.Core.Path.{_≡_};
 ghost use Prim.Native.Nat.{ℕ, _+_, _*_, _<_, _≤_};
 ghost use lib.ListN.{length, getD};
-ghost use Rattle.doubles.specs.Num.{#0, at};
-ghost use Rattle.doubles.specs.Steps.{tab};
+ghost use Rattle.doubles.specs.Num.{#0, at, finite};
+ghost use Rattle.doubles.specs.Steps.{all, tab};
 ghost use Rattle.designs.specs.Design as def;
 ghost use Rattle.designs.specs.Sound.{Sound, Whole};
 ghost use Rattle.columns.specs.RowFit.{rowFit};
@@ -12,6 +12,7 @@ use designs::Feature;
 use designs::Layout;
 use designs::Sample;
 use designs::Shape;
+use doubles::is_finite;
 
 // The sample of a stored entry.
 pub fn sample_of(rows: &[u32], e: usize) -> Sample
@@ -28,6 +29,20 @@ pub fn reading(v: &[f64], sample: Sample) -> f64
 {
     let i = sample.0;
     v[i]
+}
+
+// Whether every place is finite.
+pub fn all_finite(xs: &[f64]) -> bool
+    ensures { λ r. ⌜ r ≡ all (λ i. finite (at (now (xs .entry)) i)) (length (now (xs .entry))) ⌝ }
+{
+    let mut i = 0;
+    while i < xs.len() {
+        if is_finite(xs[i]) {} else {
+            return false;
+        }
+        i += 1;
+    }
+    true
 }
 
 // ---- column · v

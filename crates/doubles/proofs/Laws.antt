@@ -10,3 +10,4 @@ pub mod Exact
 pub mod Signs
 pub mod Steps
 pub mod Buffer
+pub mod Parts

@@ -1,2 +1,2 @@
 -- What the contracts of the record's parts cite.
-pub mod Within
+pub mod AllWithin

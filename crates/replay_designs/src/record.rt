@@ -1,21 +1,24 @@
 // One record: a code, the inputs of a call and the answers that the oracle had. The first `n` of the words are the record.
 ghost use Prim.Native.Nat.{_+_, _≤_};
-ghost use Rattle.replay_designs.specs.Within.{Within, AllWithin};
-use crate::parts::Part;
+ghost use Rattle.replay_designs.specs.AllWithin.{AllWithin};
+ghost use Rattle.vectors.specs.Within.{Within};
 use crate::parts::Parts;
-use crate::parts::Words;
-use crate::parts::all_narrow;
-use crate::parts::doubles_of;
-use crate::parts::indices_of;
 use crate::parts::parts_of;
-use crate::parts::same_places;
 use designs::Feature;
 use designs::Layout;
 use designs::Shape;
 use leaves::Number;
 use leaves::Refusal;
+use vectors::Words;
 use vectors::answers::same_number;
 use vectors::double;
+use vectors::parts::Doubles;
+use vectors::parts::Part;
+use vectors::parts::all_narrow;
+use vectors::parts::doubles_of;
+use vectors::parts::indices_of;
+use vectors::parts::part_of;
+use vectors::parts::same_doubles;
 use vectors::progress::Verdict;
 use vectors::progress::judge;
 
@@ -38,7 +41,7 @@ struct Answers {
 // What the port answers, and the lent buffer as it leaves it.
 struct Outcome {
     answer: Number,
-    lent: [f64; 256],
+    lent: Doubles,
 }
 
 // How many words between the arrays and the answers: the feature, and before it the difference.
@@ -62,11 +65,9 @@ fn doubles_answered(code: u64) -> usize
     }
 }
 
-// A line of more words is no record, so the first test never fails; what follows goes by it.
-pub fn replay(words: &Words, n: usize) -> Verdict {
-    if 256 < n {
-        return Verdict::Bad;
-    }
+pub fn replay(words: &Words, n: usize) -> Verdict
+    requires { ⌜ n ≤ 1024 ⌝ }
+{
     let code = words[0];
     if code < 0x10 || 0x17 < code {
         return Verdict::Bad;
@@ -109,7 +110,7 @@ fn indices_fit(words: &Words, code: u64, arrays: Parts) -> bool
 
 // The feature and the difference stand from word `at` on.
 fn call_of(words: &Words, code: u64, at: usize) -> Call
-    requires { ⌜ at + 2 ≤ 256 ⌝ }
+    requires { ⌜ at + 2 ≤ 1024 ⌝ }
 {
     let layout = if words[1] == 0 {
         Layout::Dense
@@ -136,7 +137,7 @@ fn call_of(words: &Words, code: u64, at: usize) -> Call
 
 // The record ends with the buffer's `count` places; the answers begin at word `at`.
 fn answers_of(words: &Words, n: usize, code: u64, at: usize, count: usize) -> Answers
-    requires { ⌜ (at + 2 + count ≤ n) × (n ≤ 256) ⌝ }
+    requires { ⌜ (at + 2 + count ≤ n) × (n ≤ 1024) ⌝ }
     ensures { λ r. ⌜ Within (r .lent) ⌝ }
 {
     let places = n - count;
@@ -149,11 +150,7 @@ fn answers_of(words: &Words, n: usize, code: u64, at: usize, count: usize) -> An
         number: words[at],
         place: words[at + 1],
         r: r,
-        lent: Part {
-            at: places,
-            count: count,
-            next: n,
-        },
+        lent: part_of(places, count),
     }
 }
 
@@ -165,7 +162,7 @@ fn agrees(words: &Words, call: Call, arrays: Parts, answers: Answers) -> bool
     let answer = out.answer;
     let lent = out.lent;
     if same_number(answer, answers.number, answers.place, answers.r) {
-        same_places(&lent, words, answers.lent)
+        same_doubles(&lent, words, answers.lent)
     } else {
         false
     }

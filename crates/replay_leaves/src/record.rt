@@ -4,20 +4,18 @@ ghost use Prim.Native.Nat.{_+_, _≤_};
 ghost use lib.ListN.{length, take};
 use leaves::penalties::inner;
 use leaves::penalties::separable;
-use leaves::penalties::separable::Penalty;
 use leaves::utils::helpers;
 use leaves::utils::helpers::Ending;
 use leaves::utils::helpers::Solution;
 use leaves::utils::prox_funcs::soft_thresholding;
+use vectors::Words;
 use vectors::answers::same_number;
 use vectors::answers::same_refusal;
 use vectors::double;
+use vectors::parts::penalty_at;
 use vectors::progress::Verdict;
 use vectors::progress::judge;
 use vectors::same;
-
-// The longest record, of a system of ten, has 125 words.
-pub type Words = [u64; 128];
 
 pub fn replay(words: &Words, n: usize) -> Verdict {
     let code = words[0];
@@ -33,24 +31,6 @@ pub fn replay(words: &Words, n: usize) -> Verdict {
     }
 }
 
-// The penalty of words 1 to 3. Whoever calls it has seen that the kind is known.
-fn penalty(words: &Words) -> Penalty {
-    let alpha = double(words[2]);
-    let second = double(words[3]);
-    let kind = words[1];
-    match kind {
-        0 => Penalty::L1 { alpha: alpha },
-        1 => Penalty::L1PlusL2 {
-            alpha: alpha,
-            l1_ratio: second,
-        },
-        _ => Penalty::MCP {
-            alpha: alpha,
-            gamma: second,
-        },
-    }
-}
-
 fn soft(words: &Words, n: usize) -> Verdict {
     if n != 4 {
         return Verdict::Bad;
@@ -63,7 +43,7 @@ fn prox(words: &Words, n: usize) -> Verdict {
     if n != 7 || 2 < words[1] {
         return Verdict::Bad;
     }
-    let r = separable::prox(penalty(words), double(words[4]), double(words[5]));
+    let r = separable::prox(penalty_at(words, 1), double(words[4]), double(words[5]));
     judge(same(r, double(words[6])))
 }
 
@@ -71,7 +51,7 @@ fn distance(words: &Words, n: usize) -> Verdict {
     if n != 9 || 2 < words[1] {
         return Verdict::Bad;
     }
-    let r = separable::subdiff_distance(penalty(words), double(words[4]), double(words[5]));
+    let r = separable::subdiff_distance(penalty_at(words, 1), double(words[4]), double(words[5]));
     judge(same_number(r, words[6], words[7], words[8]))
 }
 
@@ -79,7 +59,7 @@ fn inner_violation(words: &Words, n: usize) -> Verdict {
     if n != 7 || 2 < words[1] {
         return Verdict::Bad;
     }
-    let r = inner::violation(penalty(words), double(words[4]), double(words[5]));
+    let r = inner::violation(penalty_at(words, 1), double(words[4]), double(words[5]));
     judge(same(r, double(words[6])))
 }
 
@@ -108,7 +88,7 @@ fn value(words: &Words, n: usize) -> Verdict {
         return Verdict::Bad;
     }
     let w = weights(words, count);
-    let r = separable::value(penalty(words), &w[..count]);
+    let r = separable::value(penalty_at(words, 1), &w[..count]);
     judge(same_number(r, words[count + 5], words[count + 6], words[count + 7]))
 }
 
@@ -121,7 +101,7 @@ fn inner_value(words: &Words, n: usize) -> Verdict {
         return Verdict::Bad;
     }
     let w = weights(words, count);
-    let r = inner::value(penalty(words), &w[..count]);
+    let r = inner::value(penalty_at(words, 1), &w[..count]);
     judge(same(r, double(words[count + 5])))
 }
 
@@ -129,7 +109,7 @@ fn inner_value(words: &Words, n: usize) -> Verdict {
 
 // The `count` doubles from word `at` on, and NaN behind them: the elimination must not look there.
 fn row(words: &Words, at: usize, count: usize) -> [f64; 11]
-    requires { ⌜ (count ≤ 11) × (at + count ≤ 128) ⌝ }
+    requires { ⌜ (count ≤ 11) × (at + count ≤ 1024) ⌝ }
 {
     let mut r = [0.0 / 0.0; 11];
     let mut k: usize = 0;
@@ -157,7 +137,7 @@ fn system(words: &Words, size: usize) -> [[f64; 11]; 10]
 }
 
 fn same_places(z: [f64; 10], words: &Words, at: usize) -> bool
-    requires { ⌜ at + 10 ≤ 128 ⌝ }
+    requires { ⌜ at + 10 ≤ 1024 ⌝ }
 {
     let mut i: usize = 0;
     while i < 10 {
@@ -171,7 +151,7 @@ fn same_places(z: [f64; 10], words: &Words, at: usize) -> bool
 
 // The answers from word `at` on: number, place, singular and the ten places.
 fn same_solution(s: Solution, words: &Words, at: usize) -> bool
-    requires { ⌜ at + 13 ≤ 128 ⌝ }
+    requires { ⌜ at + 13 ≤ 1024 ⌝ }
 {
     let number = words[at];
     let place = words[at + 1];

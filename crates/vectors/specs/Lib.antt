@@ -1,2 +1,4 @@
--- What the contract of the reader cites.
+-- What the contracts of the reader and of the record's parts cite.
 pub mod Count
+pub mod Kept
+pub mod Within

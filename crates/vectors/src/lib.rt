@@ -8,7 +8,12 @@ ghost use lib.Ieee.{binary64, ofBits};
 ghost use Rattle.vectors.specs.Count.{countOf};
 
 pub mod answers;
+pub mod list;
+pub mod parts;
 pub mod progress;
+
+// The words of a record, and behind them those of earlier lines. No made record has more.
+pub type Words = [u64; 1024];
 
 // The double with these bits. A NaN's pattern lies above infinity's, the sign aside, and `from_bits` is undefined there.
 pub fn double(word: u64) -> f64

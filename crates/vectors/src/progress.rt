@@ -1,4 +1,7 @@
 // How far a replay of a list has come, and what it prints. A program adds only how it replays a record.
+ghost use mathlib.Core.Path.{_≡_};
+ghost use Prim.Native.Nat.{_<_};
+ghost use Rattle.vectors.specs.Kept.{Kept};
 use crate::Reader;
 use crate::start;
 use libc::STDOUT_FILENO;
@@ -19,19 +22,36 @@ pub fn judge(is_same: bool) -> Verdict {
     }
 }
 
-// How far a list was read: whether there may be more of it, the line begun and its number, and the records so far.
+// How far a list was read.
 pub struct Progress {
-    pub open: bool,
+    // The list's file, negative where it did not open.
+    pub fd: i32,
+    // How many turns may follow, 0 where the list is over. Nothing says that a file ends, so they are counted down from a number that no run
+    // uses up.
+    pub left: u64,
+    // The bytes of the buffer from `at` to `end` are not taken yet.
+    pub at: usize,
+    pub end: usize,
+    // How many words the record has that was read and is not counted yet, 0 where there is none.
+    pub found: usize,
+    // The line begun and its number.
     pub reader: Reader,
     pub line: u64,
+    // The records so far.
     pub cases: u64,
     pub differ: u64,
 }
 
 // Before the first byte.
-pub fn begin() -> Progress {
+pub fn begin(fd: i32) -> Progress
+    ensures { λ r. ⌜ Kept r × (0 < r .left) ⌝ }
+{
     Progress {
-        open: true,
+        fd: fd,
+        left: u64::MAX,
+        at: 0,
+        end: 0,
+        found: 0,
         reader: start(),
         line: 1,
         cases: 0,
@@ -40,7 +60,7 @@ pub fn begin() -> Progress {
 }
 
 // A count goes up by one. It wraps and needs no bound, since no list has 2 ^ 64 lines.
-fn one_more(n: u64) -> u64 {
+pub fn one_more(n: u64) -> u64 {
     std::num::wrapping_add_u64(n, 1)
 }
 
@@ -50,60 +70,43 @@ fn print_line(line: u64, what: &[u8]) {
     io::write_all(STDOUT_FILENO, what);
 }
 
-// One more record, which differs or is bad. Only the first twenty are named.
-fn count_wrong(p: Progress, what: &[u8]) -> Progress {
+// Names a record that differs or is bad. Only the first twenty are named.
+fn name_wrong(p: Progress, what: &[u8]) {
     if p.differ < 20 {
         print_line(p.line, what);
     }
-    Progress {
-        open: p.open,
-        reader: start(),
-        line: one_more(p.line),
-        cases: one_more(p.cases),
-        differ: one_more(p.differ),
-    }
+}
+
+// One more record, of which `wrong` are wrong: 1 or 0.
+fn add_record(mut p: Progress, wrong: u64) -> Progress
+    requires { ⌜ Kept p ⌝ }
+    ensures { λ r. ⌜ Kept r × (r .left ≡ p .left) ⌝ }
+{
+    let line = one_more(p.line);
+    let cases = one_more(p.cases);
+    let differ = std::num::wrapping_add_u64(p.differ, wrong);
+    p.line = line;
+    p.cases = cases;
+    p.differ = differ;
+    p.found = 0;
+    p
 }
 
 // A line ended that was to be a record.
-pub fn count(p: Progress, verdict: Verdict) -> Progress {
+pub fn count(p: Progress, verdict: Verdict) -> Progress
+    requires { ⌜ Kept p ⌝ }
+    ensures { λ r. ⌜ Kept r × (r .left ≡ p .left) ⌝ }
+{
     match verdict {
-        Verdict::Same => Progress {
-            open: p.open,
-            reader: start(),
-            line: one_more(p.line),
-            cases: one_more(p.cases),
-            differ: p.differ,
-        },
-        Verdict::Differs => count_wrong(p, b" differs\n"),
-        Verdict::Bad => count_wrong(p, b" bad\n"),
-    }
-}
-
-// A line goes on, or one that is no record ended.
-pub fn go_on(p: Progress, reader: Reader, byte: u8) -> Progress {
-    let line = if byte == b'\n' {
-        one_more(p.line)
-    } else {
-        p.line
-    };
-    Progress {
-        open: p.open,
-        reader: reader,
-        line: line,
-        cases: p.cases,
-        differ: p.differ,
-    }
-}
-
-// There is no more to read.
-pub fn closed(p: Progress) -> Progress {
-    let reader = p.reader;
-    Progress {
-        open: false,
-        reader: reader,
-        line: p.line,
-        cases: p.cases,
-        differ: p.differ,
+        Verdict::Same => add_record(p, 0),
+        Verdict::Differs => {
+            name_wrong(p, b" differs\n");
+            add_record(p, 1)
+        }
+        Verdict::Bad => {
+            name_wrong(p, b" bad\n");
+            add_record(p, 1)
+        }
     }
 }
 

@@ -5,24 +5,18 @@ use native.Mathlib.Numerals.{add-one}
 use native.Mathlib.Nat.{le-of-eq, le-trans, add-mul, suc-mul, mul-le-mul-right, mod-lt, zero-lt-suc}
 use native.Mathlib.Omega.{arith}
 use borrow.Rule.Slice.PartMut.{putMid}
-use mathlib.Core.List.{List, _++_}
-use lib.ListN.{length, take, drop, take-append-drop, length-drop}
-use lib.Seq.{length-take-le, take-append-le, drop-append-le, take-at, drop-at}
-use lib.Ieee.{Float, nan}
-use Rattle.doubles.specs.Num.{at}
-use Rattle.doubles.specs.Steps.{tab, steps}
+use mathlib.Core.List.{List}
+use lib.ListN.{length, take, drop, length-drop}
+use lib.Seq.{length-take-le}
+use lib.Ieee.{Float}
 use Rattle.doubles.specs.Buffer.{put}
 use Rattle.doubles.proofs.Laws.Buffer.{put-back, length-put}
+use Rattle.doubles.proofs.Laws.Parts.{part-before, part-at, part-long}
 use Rattle.designs.specs.declared.Shape.{Shape}
 use Rattle.designs.proofs.Laws.Layouts.{row-inside}
 use Rattle.runs.specs.Extrapolation.{gathered, keptNow}
 use Rattle.anderson.specs.Places.{keptIn, oldAt, fitAt}
-use Rattle.anderson.proofs.Laws.System.{tab-filled, rows-small}
-
--- a table of a list's own places
-pub tab-own : (l : List Float) → tab (at l) (length l) ≡ l
-unfolding steps
-tab-own l = sym (tab-filled (at l) l nan 0 (length l) refl (omega arith) (λ j a b. refl))
+use Rattle.anderson.proofs.Laws.System.{rows-small}
 
 -- ---- sizes
 pub old-behind : (K p : ℕ) → 3 * p + suc K * p ≤ (2 * K + 4) * p
@@ -30,31 +24,6 @@ old-behind K p = le-trans (le-of-eq (sym (add-mul 3 (suc K) p))) (mul-le-mul-rig
 
 pub room-split : (K p n : ℕ) → (2 * K + 5) * p + n ≡ (2 * K + 4) * p + p + n
 room-split K p n = let q : 2 * K + 5 ≡ suc (2 * K + 4) = omega arith in rw (q, suc-mul (2 * K + 4) p)
-
--- ---- parts
-module _ {A : Type 0} where
-  -- before the part that was put
-  pub part-before : (l : List A) (o a m : ℕ) (xs : List A) → a + m ≤ o → o ≤ length l → take m (drop a (put l o xs)) ≡ take m (drop a l)
-  unfolding put
-  part-before l o a m xs h k =
-      let e : length (take o l) ≡ o = length-take-le o l k in
-      let d : length (drop a (take o l)) ≡ o - a = length-drop a (take o l) ∙ ap (λ (n : ℕ). n - a) e in
-      let front : (rest : List A) → take m (drop a (take o l ++ rest)) ≡ take m (drop a (take o l)) =
-      λ rest. ap (take m) (drop-append-le a (take o l) rest (omega arith)) ∙ take-append-le m (drop a (take o l)) rest (omega arith) in
-      front (xs ++ drop (o + length xs) l) ∙ sym (front (drop o l)) ∙ ap (λ (z : List A). take m (drop a z)) (take-append-drop o l)
-
-  -- and the part itself
-  pub part-at : (l : List A) (o n : ℕ) (xs : List A) → o ≤ length l → length xs ≡ n → take n (drop o (put l o xs)) ≡ xs
-  unfolding put
-  part-at l o n xs h k =
-      ap (take n) (drop-at (take o l) (xs ++ drop (o + length xs) l) o (length-take-le o l h))
-      ∙ take-at xs (drop (o + length xs) l) n k
-
-  pub part-long : (l : List A) (f e n : ℕ) → e ≡ f + n → e ≤ length l → length (take (e - f) (drop f l)) ≡ n
-  part-long l f e n h k =
-      let q : e - f ≡ n = omega arith in
-      let d : length (drop f l) ≡ length l - f = length-drop f l in
-      rw q (length-take-le n (drop f l) (omega arith))
 
 -- ---- of a shape and a depth
 module _ (s : Shape) (K : ℕ) where

@@ -1,18 +1,18 @@
 -- The system's rows are arrays of a fixed size that start as zeros: a loop writes the first places, and the rest stays. Also where a kept row
 -- lies. Assumes nothing.
-use mathlib.Core.Path.{_≡_, refl, sym, ap, _∙_}
-use Prim.Native.Nat.{ℕ, zero, suc, _+_, _-_, _*_, _≤_, _<_}
-use native.Mathlib.Nat.{le-antisymm, le-refl, le-trans, le-of-eq, add-zero, mul-le-mul}
+use mathlib.Core.Path.{_≡_, refl, ap, _∙_}
+use Prim.Native.Nat.{ℕ, suc, _+_, _-_, _*_, _≤_, _<_}
+use native.Mathlib.Nat.{le-antisymm, le-refl, le-trans, le-of-eq, mul-le-mul}
 use native.Mathlib.Omega.{arith}
-use mathlib.Core.List.{List, [], _∷_, _++_, append-assoc, append-nil}
+use mathlib.Core.List.{List, _++_}
 use lib.Dec.{ltb, eqb}
-use lib.ListN.{length, getD, set, drop, replicate, length-replicate, getD-replicate, drop-of-length-le}
-use lib.Seq.{drop-cons}
+use lib.ListN.{set, drop, replicate, length-replicate, getD-replicate}
 use lib.Ieee.{Float, nan}
 use borrow.Author.Tests.{lt-ltb, le-ltb, eq-eqb, ne-eqb}
 use Rattle.doubles.specs.Num.{#0, #1, at, pick}
-use Rattle.doubles.specs.Steps.{steps, tab}
+use Rattle.doubles.specs.Steps.{tab}
 use Rattle.doubles.proofs.Laws.Steps.{tab-more, tab-same}
+use Rattle.doubles.proofs.Laws.Parts.{tab-filled}
 use Rattle.designs.proofs.Laws.Layouts.{cell}
 
 -- ---- places of what is kept
@@ -21,22 +21,6 @@ later K p k a len hk ha h = cell (suc K) p (k + 1) a len (omega arith) ha h
 
 pub sooner : (K p k a len : ℕ) → k < K → a < p → suc K * p ≤ len → k * p + a < len
 sooner K p k a len hk ha h = cell (suc K) p k a len (omega arith) ha h
-
--- ---- a list of which the first places are written, and the others hold what the table has there
-module _ {A : Type 0} (g : ℕ → A) (l : List A) (d : A) where
-  tab-rest : (k i : ℕ) → length l ≡ i + k → ((j : ℕ) → i ≤ j → j < i + k → getD l j d ≡ g j) → tab g i ++ drop i l ≡ tab g (i + k)
-  unfolding steps
-  tab-rest zero i h e = rw (drop-of-length-le l {i = i} (omega arith), append-nil, add-zero)
-  tab-rest (suc k) i h e =
-      let n : suc i + k ≡ i + suc k = omega arith in
-      let v : getD l i d ≡ g i = e i (omega arith) (omega arith) in
-      let q : tab g (suc i) ++ drop (suc i) l ≡ tab g (suc i + k) = tab-rest k (suc i) (omega arith) (λ j a b. e j (omega arith) (omega arith)) in
-      rw (drop-cons l i d (omega arith), v) (sym (append-assoc (tab g i) (g i ∷ []) (drop (suc i) l)) ∙ q ∙ ap (tab g) n)
-
-  pub tab-filled : (i n : ℕ) → length l ≡ n → i ≤ n → ((j : ℕ) → i ≤ j → j < n → getD l j d ≡ g j) → tab g i ++ drop i l ≡ tab g n
-  tab-filled i n h k e =
-      let m : i + (n - i) ≡ n = omega arith in
-      tab-rest (n - i) i (h ∙ sym m) (λ j a b. e j a (omega arith)) ∙ ap (tab g) m
 
 -- zeros but for the first K places
 pub filled : {A : Type 0} (f : ℕ → A) (z : A) (n K i : ℕ) (row : List A) → K ≤ n → i ≤ K → K ≤ i → row ≡ tab f i ++ drop i (replicate n z)

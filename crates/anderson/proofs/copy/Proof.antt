@@ -6,7 +6,7 @@ use Rattle.doubles.specs.Num.{at}
 use Rattle.doubles.specs.Steps.{tab}
 use Rattle.doubles.proofs.Laws.Steps.{tab-none, tab-more, tab-all}
 use mathlib.Core.List.{_++_}
-use Rattle.anderson.proofs.Laws.Scratch.{tab-own}
+use Rattle.doubles.proofs.Laws.Parts.{tab-own}
 use borrow.Author.Needs.{needs}
 use Rattle.anderson.proofs.copy.Statement.{statement}
 use Rattle.anderson.proofs.copy.Tie as tie

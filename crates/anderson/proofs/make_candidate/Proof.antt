@@ -1,6 +1,7 @@
 -- `make_candidate`: the weights are put by, what is kept is read beside them, and the fit is put behind them. Assumes nothing.
 use native.Mathlib.Omega.{arith}
-use Rattle.anderson.proofs.Laws.Scratch.{kept-long, part-long}
+use Rattle.doubles.proofs.Laws.Parts.{part-long}
+use Rattle.anderson.proofs.Laws.Scratch.{kept-long}
 use Rattle.anderson.proofs.Laws.System.{places-small}
 use Rattle.anderson.proofs.Laws.Step.{made}
 use borrow.Author.Needs.{needs}

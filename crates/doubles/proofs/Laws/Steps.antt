@@ -142,6 +142,15 @@ module _ (g : ℕ → Bool) where
       below-more (λ (k : ℕ). g k ≡ true) n (all-each n (q .0)) (q .1) i (omega arith)
 
 -- ---- a loop that may stop early
+-- a turn that goes on where all is well, and breaks off otherwise
+pub picked : {A : Type 0} (b : Bool) (x y : A) → going y ≡ pick b (going x) bad → (b ≡ true) × (y ≡ x)
+picked true x y e = (refl, cc)
+picked false x y e = (cc, cc)
+
+pub not-picked : {A : Type 0} (b : Bool) (x : A) → bad ≡ pick b (going x) bad → b ≡ false
+not-picked true x e = cc
+not-picked false x e = refl
+
 next-over : {A : Type 0} (g : A → Stage A) (x : Stage A) → over x ≡ true → x ≡ next g x
 next-over g (going a) h = absurd (false≢true h)
 next-over g (stopped a) h = refl

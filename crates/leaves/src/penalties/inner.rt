@@ -6,7 +6,7 @@ use doubles::abs;
 use doubles::is_finite;
 use doubles::signum;
 
-fn alpha_in_range(alpha: f64) -> bool
+pub fn alpha_in_range(alpha: f64) -> bool
     ensures { λ r. ⌜ r ≡ pen.alphaLegal alpha ⌝ }
 {
     if is_finite(alpha) {

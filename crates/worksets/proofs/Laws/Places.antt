@@ -3,16 +3,16 @@ use mathlib.Core.Path.{_≡_, refl, sym, ap, _∙_}
 use mathlib.Core.Bool.{Bool, true, false}
 use mathlib.Core.Logic.{_⊎_, inl, inr}
 use mathlib.Core.List.{List, [], _∷_, _++_, append-assoc}
-use Prim.Native.Nat.{ℕ, zero, suc, _+_, _*_, _-_, _≤_, _<_}
-use native.Mathlib.Numerals.{add-one}
-use native.Mathlib.Nat.{le-antisymm, zero-sub, sub-zero, suc-sub-suc}
+use Prim.Native.Nat.{ℕ, suc, _+_, _*_, _-_, _≤_, _<_}
+use native.Mathlib.Nat.{le-antisymm, sub-zero}
 use native.Mathlib.Omega.{arith}
 use lib.Ieee.{Float}
-use lib.ListN.{length, getD, take, drop, set, length-append, length-drop, replicate, replicate-append-replicate}
+use lib.ListN.{length, getD, take, drop, set, length-append, length-drop}
 use lib.Seq.{length-take-le, take-all, take-nil, take-at, drop-at, getD-take, set-at}
 use borrow.Author.Tests.{lt-ltb, le-ltb}
 use Rattle.doubles.specs.Num.{pick}
 use Rattle.doubles.specs.Steps.{steps, tab}
+use Rattle.doubles.proofs.Laws.Parts.{same-drop, same-first}
 use Rattle.runs.specs.WorkingSet.{isZero, smaller, greater, support, size, insert, others, workingSet, padded}
 use Rattle.worksets.proofs.Laws.Below.{below-each, below-more, below-cut}
 use Rattle.worksets.proofs.Laws.Insert.{cut-insert}
@@ -22,21 +22,6 @@ use Rattle.worksets.proofs.Laws.Sets.{support-more, others-more, share-
 pub smaller-of : {P Q : Type 0} (a n g : ℕ) → ((t : P) × (g ≡ n)) ⊎ ((t : Q) × (g ≡ a)) → (P → n < a) → (Q → a ≤ n) → g ≡ smaller a n
 smaller-of a n g (inl t) p q = rw (lt-ltb n a (p (t .0))) (t .1)
 smaller-of a n g (inr t) p q = rw (le-ltb n a (q (t .0))) (t .1)
-
--- ---- zeros
-zeros : (n : ℕ) → tab {A = ℕ} (λ k. 0) n ≡ replicate n 0
-unfolding steps
-zeros zero = refl
-zeros (suc n) = ap (λ (l : List ℕ). l ++ (0 ∷ [])) (zeros n) ∙ replicate-append-replicate n 1 0 ∙ ap (λ (k : ℕ). replicate k 0) (add-one n)
-
-zeros-first : (n : ℕ) → tab {A = ℕ} (λ k. 0) (suc n) ≡ 0 ∷ tab {A = ℕ} (λ k. 0) n
-zeros-first n = zeros (suc n) ∙ ap (λ (l : List ℕ). 0 ∷ l) (sym (zeros n))
-
-zeros-drop : (i n : ℕ) → drop i (tab {A = ℕ} (λ k. 0) n) ≡ tab {A = ℕ} (λ k. 0) (n - i)
-unfolding steps
-zeros-drop zero n = rw (sub-zero n)
-zeros-drop (suc i) zero = rw (zero-sub (suc i))
-zeros-drop (suc i) (suc n) = ap (drop (suc i)) (zeros-first n) ∙ zeros-drop i n ∙ ap (tab {A = ℕ} (λ k. 0)) (sym (suc-sub-suc n i))
 
 -- ---- the whole: what lies behind the support is filled with others up to the size, and zeros behind
 filled : (start : ℕ) (v w : List Float) (h : start ≤ length w) (a s : ℕ) (l r : List ℕ) → a ≡ length (support w (length w)) → s ≡ size start w
@@ -49,7 +34,7 @@ filled start v w h a s l r ea es e q =
     let high = size-most start w h in
     let back : p - length (support w p) - (s - a) ≡ p - length (workingSet start v w) = rw (length-workingSet start w h v) (omega arith) in
     let parts : workingSet start v w ≡ support w p ++ take (s - a) (others v w p) = rw (ea, es) (workingSet-parts start w h v) in
-    rw (e, q, take-at (support w p) (tab {A = ℕ} (λ k. 0) (p - length (support w p))) a (sym ea), drop-at (support w p) (tab {A = ℕ} (λ k. 0) (p - length (support w p))) a (sym ea), zeros-drop (s - a) (p - length (support w p)), back, ← append-assoc, ← parts)
+    rw (e, q, take-at (support w p) (tab {A = ℕ} (λ k. 0) (p - length (support w p))) a (sym ea), drop-at (support w p) (tab {A = ℕ} (λ k. 0) (p - length (support w p))) a (sym ea), same-drop {A = ℕ} 0 (s - a) (p - length (support w p)), back, ← append-assoc, ← parts)
 
 -- the same by what the code has computed: a is the number of nonzero weights, s the size
 module _ (start : ℕ) (v w : List Float) (a s : ℕ) (h : start ≤ length w) (ea : a ≡ length (support w (length w))) (es : s ≡ greater start (smaller (2 * a) (length w))) where
@@ -113,7 +98,7 @@ support-turn w n j c l l' h e is q = q ∙ rw (support-more w j) (go (isZero w j
         let few = support-few w j in
         let a : n - length (support w j) ≡ suc (n - (c + 1)) = omega arith in
         let b : n - length (support w j ++ (j ∷ [])) ≡ n - (c + 1) = rw (length-append (support w j) (j ∷ []), e) in
-        rw (is, a, b, zeros-first (n - (c + 1)), append-assoc) (set-at (support w j) 0 (tab {A = ℕ} (λ k. 0) (n - (c + 1))) j c (sym e))
+        rw (is, a, b, same-first {A = ℕ} 0 (n - (c + 1)), append-assoc) (set-at (support w j) 0 (tab {A = ℕ} (λ k. 0) (n - (c + 1))) j c (sym e))
 
 -- ---- the loop that ranks the others, cut at the room m
 module _ (v w : List Float) (m : ℕ) where

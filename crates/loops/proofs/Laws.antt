@@ -1,0 +1,6 @@
+-- Laws on the loops' definitions.
+pub mod Settings
+pub mod Epochs
+pub mod Reached
+pub mod Turns
+pub mod Prepared

@@ -1,0 +1,100 @@
+-- `solve`: the numbers are prepared over cleared buffers; if all are usable, the run follows. Assumes nothing.
+use mathlib.Core.Path.{sym, _∙_}
+use native.Mathlib.Nat.{le-of-eq}
+use lib.Seq.{length-take-le}
+use Rattle.loops.proofs.Laws.Settings.{ready-still}
+use Rattle.loops.proofs.Laws.Prepared.{cleared-room, prepared-long, prepared-room, prepared-kept, solved-bad, solved-run}
+use borrow.Author.Needs.{needs}
+use Rattle.loops.proofs.solve.Statement.{statement}
+use Rattle.loops.proofs.solve.Tie as tie
+
+add-twice : tie.Need-add-twice
+add-twice c = search needs
+
+clear-requires : tie.Need-clear-requires
+clear-requires c κs = search needs
+
+clear-requires-2 : tie.Need-clear-requires-2
+clear-requires-2 c κs = search needs
+
+clear-requires-3 : tie.Need-clear-requires-3
+clear-requires-3 c κs = search needs
+
+slice-relend-prefix-prepare : tie.Need-slice-relend-prefix-prepare
+slice-relend-prefix-prepare c = cleared-room (c .before .before .before .before .before .before .before .before .before .before .before .before .before .before .before .before .before .before .before .before .before .pre .0) (c .before .before .clear3 .last .0) (c .before .before .clear3 .ensures)
+
+slice-aggregate-prepare : tie.Need-slice-aggregate-prepare
+slice-aggregate-prepare c = sym (length-take-le _ _ (cleared-room (c .before .before .before .before .before .before .before .before .before .before .before .before .before .before .before .before .before .before .before .before .before .before .pre .0) (c .before .before .before .clear3 .last .0) (c .before .before .before .clear3 .ensures)))
+
+prepare-requires : tie.Need-prepare-requires
+prepare-requires c κs = (c .before .before .before .before .before .before .before .before .before .before .before .before .before .before .before .before .before .before .before .before .before .before .pre .0 .samples, length-take-le _ _ (cleared-room (c .before .before .before .before .before .before .before .before .before .before .before .before .before .before .before .before .before .before .before .before .before .before .pre .0) (c .before .before .before .clear3 .last .0) (c .before .before .before .clear3 .ensures)), c .before .before .before .before .before .before .before .before .before .before .before .before .before .before .before .before .before .before .before .before .before .before .pre .0 .whole, le-of-eq (sym (c .before .before .before .before .before .before .before .before .before .before .before .before .before .before .before .before .before .before .before .before .before .before .pre .0 .targets)))
+
+slice-reshare-prefix-is-usable : tie.Need-slice-reshare-prefix-is-usable
+slice-reshare-prefix-is-usable c = prepared-room (c .before .before .before .before .before .before .before .before .before .before .before .before .before .before .before .before .before .before .before .before .before .before .before .before .before .pre .0) (c .before .before .before .before .before .before .clear3 .last .0) (c .before .before .before .before .before .before .clear3 .ensures) (c .before .before .prepare .last .1 .1 .1 .1 .1 .0) (c .before .before .prepare .kept .1 .1 .1 .1 .1 .0)
+
+slice-aggregate-is-usable : tie.Need-slice-aggregate-is-usable
+slice-aggregate-is-usable c = sym (length-take-le _ _ (prepared-room (c .before .before .before .before .before .before .before .before .before .before .before .before .before .before .before .before .before .before .before .before .before .before .before .before .before .before .pre .0) (c .before .before .before .before .before .before .before .clear3 .last .0) (c .before .before .before .before .before .before .before .clear3 .ensures) (c .before .before .before .prepare .last .1 .1 .1 .1 .1 .0) (c .before .before .before .prepare .kept .1 .1 .1 .1 .1 .0)))
+
+is-usable-requires : tie.Need-is-usable-requires
+is-usable-requires c κs = (c .before .before .before .before .before .before .before .before .before .before .before .before .before .before .before .before .before .before .before .before .before .before .before .before .before .before .pre .0 .features, length-take-le _ _ (prepared-room (c .before .before .before .before .before .before .before .before .before .before .before .before .before .before .before .before .before .before .before .before .before .before .before .before .before .before .pre .0) (c .before .before .before .before .before .before .before .clear3 .last .0) (c .before .before .before .before .before .before .before .clear3 .ensures) (c .before .before .before .prepare .last .1 .1 .1 .1 .1 .0) (c .before .before .before .prepare .kept .1 .1 .1 .1 .1 .0)))
+
+same-length : tie.Need-same-length
+same-length c = search needs
+
+same-length-2 : tie.Need-same-length-2
+same-length-2 c = search needs
+
+same-length-3 : tie.Need-same-length-3
+same-length-3 c = search needs
+
+returns : tie.Need-returns
+returns c = solved-bad (c .before .before .before .before .before .before .before .before .before .before .before .before .before .before .before .before .before .before .before .before .before .before .before .before .before .before .before .before .pre .0) (c .before .before .before .before .before .before .before .before .before .clear3 .last .0) (c .before .before .before .before .before .before .before .before .before .clear3 .ensures) (c .before .before .before .before .before .prepare .last .1 .1 .1 .1 .1 .0) (c .before .before .before .before .before .prepare .kept .1 .1 .1 .1 .1 .0) (c .before .before .before .before .before .prepare .ensures) _ (c .before .is-usable .ensures) (c .if1 .left)
+
+run-requires : tie.Need-run-requires
+run-requires c κs = (
+  ready-still (c .before .before .before .before .before .before .before .before .before .before .before .before .before .before .before .before .before .before .before .before .before .before .before .before .before .before .before .before .before .before .before .before .pre .0) (c .before .before .before .before .before .before .before .before .before .before .before .before .before .before .before .before .before .before .before .before .before .clear .last .0) (c .before .before .before .before .before .before .before .before .before .before .before .before .before .before .before .before .before .clear2 .last .0) _ (c .before .before .before .before .before .before .before .before .before .before .before .before .before .before .before .before .before .before .before .before .before .clear .kept .0) (c .before .before .before .before .before .before .before .before .before .before .before .before .before .before .before .before .before .clear2 .kept .0) (prepared-long (c .before .before .before .before .before .before .before .before .before .before .before .before .before .before .before .before .before .before .before .before .before .before .before .before .before .before .before .before .before .before .before .before .pre .0) (c .before .before .before .before .before .before .before .before .before .before .before .before .before .clear3 .last .0) (c .before .before .before .before .before .before .before .before .before .before .before .before .before .clear3 .ensures) (c .before .before .before .before .before .before .before .before .before .prepare .last .1 .1 .1 .1 .1 .0) (c .before .before .before .before .before .before .before .before .before .prepare .kept .1 .1 .1 .1 .1 .0)),
+  c .before .before .before .before .before .before .before .before .before .before .before .before .before .before .before .before .before .before .before .before .before .before .before .before .before .before .before .before .before .before .before .before .pre .1,
+  c .before .before .before .before .before .before .before .before .before .before .before .before .before .before .before .before .before .before .before .before .before .clear .ensures ∙ rw (c .before .before .before .before .before .before .before .before .before .before .before .before .before .before .before .before .before .before .before .before .before .before .before .before .before .before .before .before .before .before .before .before .pre .0 .weights),
+  c .before .before .before .before .before .before .before .before .before .before .before .before .before .before .before .before .before .clear2 .ensures ∙ rw (c .before .before .before .before .before .before .before .before .before .before .before .before .before .before .before .before .before .before .before .before .before .before .before .before .before .before .before .before .before .before .before .before .pre .0 .fits),
+  prepared-kept (c .before .before .before .before .before .before .before .before .before .before .before .before .before .before .before .before .before .before .before .before .before .before .before .before .before .before .before .before .before .before .before .before .pre .0) (c .before .before .before .before .before .before .before .before .before .before .before .before .before .clear3 .last .0) (c .before .before .before .before .before .before .before .before .before .before .before .before .before .clear3 .ensures) (c .before .before .before .before .before .before .before .before .before .prepare .last .1 .1 .1 .1 .1 .0) (c .before .before .before .before .before .before .before .before .before .prepare .kept .1 .1 .1 .1 .1 .0),
+)
+
+same-length-4 : tie.Need-same-length-4
+same-length-4 c = search needs
+
+same-length-5 : tie.Need-same-length-5
+same-length-5 c = search needs
+
+same-length-6 : tie.Need-same-length-6
+same-length-6 c = search needs
+
+same-length-7 : tie.Need-same-length-7
+same-length-7 c = search needs
+
+returns-2 : tie.Need-returns-2
+returns-2 c = rw (← solved-run (c .before .before .before .before .before .before .before .before .before .before .before .before .before .before .before .before .before .before .before .before .before .before .before .before .before .before .before .before .before .before .before .before .before .before .before .before .before .before .before .before .before .pre .0) (c .before .before .before .before .before .before .before .before .before .before .before .before .before .before .before .before .before .before .before .before .before .before .clear3 .last .0) (c .before .before .before .before .before .before .before .before .before .before .before .before .before .before .before .before .before .before .before .before .before .before .clear3 .ensures) (c .before .before .before .before .before .before .before .before .before .before .before .before .before .before .before .before .before .before .prepare .last .1 .1 .1 .1 .1 .0) (c .before .before .before .before .before .before .before .before .before .before .before .before .before .before .before .before .before .before .prepare .kept .1 .1 .1 .1 .1 .0) (c .before .before .before .before .before .before .before .before .before .before .before .before .before .before .before .before .before .before .prepare .ensures) _ (c .before .before .before .before .before .before .before .before .before .before .before .before .before .before .is-usable .ensures) (c .before .before .before .before .before .before .before .before .before .before .before .before .before .if1 .taken)) (c .before .before .before .before .before .before .before .before .run .ensures)
+
+pub solve-spec : {M : Type 1} → statement M
+solve-spec =
+    tie.close
+    (tie.spec
+    add-twice
+    clear-requires
+    clear-requires-2
+    clear-requires-3
+    slice-relend-prefix-prepare
+    slice-aggregate-prepare
+    prepare-requires
+    slice-reshare-prefix-is-usable
+    slice-aggregate-is-usable
+    is-usable-requires
+    same-length
+    same-length-2
+    same-length-3
+    returns
+    run-requires
+    same-length-4
+    same-length-5
+    same-length-6
+    same-length-7
+    returns-2)

@@ -1,0 +1,105 @@
+-- `turn`: the violations of all features are taken; the run ends, or an iteration follows. Assumes nothing.
+use mathlib.Core.Path.{refl, sym, ap, _∙_}
+use Rattle.loops.proofs.Laws.Settings.{few-iterations, room-for, ready-still}
+use Rattle.loops.proofs.Laws.Turns.{violations-read, kept-measured, turn-bad, found-scratch, turn-stops, turn-goes-on, not-last, totalled-more, totalled-most, grown-none, grown-same}
+use Rattle.epochs.specs.Reading.{measuredOf}
+use Rattle.epochs.specs.declared.Worst.{Worst}
+use borrow.Author.Needs.{needs}
+use Rattle.loops.proofs.turn.Statement.{statement}
+use Rattle.loops.proofs.turn.Tie as tie
+
+opt-cond-violation-requires : tie.Need-opt-cond-violation-requires
+opt-cond-violation-requires c κs = (c .before .before .before .before .before .before .before .before .before .before .before .pre .0 .samples, c .before .before .before .before .before .before .before .before .before .before .before .pre .0 .features, c .before .before .before .before .before .before .before .before .before .before .before .pre .0 .weights, room-for (c .before .before .before .before .before .before .before .before .before .before .before .pre .0), c .before .before .before .before .before .before .before .before .before .before .before .pre .0 .whole, c .before .before .before .before .before .before .before .before .before .before .before .pre .0 .fits)
+
+enum-told : tie.Need-enum-told
+enum-told c = search needs
+
+enum-known-v : tie.Need-enum-known-v
+enum-known-v c = search needs
+
+is-last-requires : tie.Need-is-last-requires
+is-last-requires c κs = search needs
+
+same-length : tie.Need-same-length
+same-length c = search needs
+
+same-length-2 : tie.Need-same-length-2
+same-length-2 c = search needs
+
+same-length-3 : tie.Need-same-length-3
+same-length-3 c = search needs
+
+returns : tie.Need-returns
+returns c = (
+  (λ sets. turn-stops _ _ _ _ _ _ _ _ _ sets _ _ (sym (ap (λ (r : Worst). measuredOf r (c .before .before .before .before .before .before .before .before .opt-cond-violation .last .1 .1 .1 .1 .1 .1 .1 .0)) (c .before .before .before .before .v .given .1)) ∙ c .before .before .before .before .before .before .before .before .opt-cond-violation .ensures .0) _ (c .before .before .is-last .ensures) (c .before .if1 .taken) _
+      (kept-measured _ (c .before .before .before .before .before .before .before .before .before .before .before .before .before .before .before .before .before .before .before .before .args .shape) refl _ _ _ (room-for (c .before .before .before .before .before .before .before .before .before .before .before .before .before .before .before .before .before .before .before .before .pre .0)) _ (found-scratch _ _ _ _ _ _ (sym (ap (λ (r : Worst). measuredOf r (c .before .before .before .before .before .before .before .before .opt-cond-violation .last .1 .1 .1 .1 .1 .1 .1 .0)) (c .before .before .before .before .v .given .1)) ∙ c .before .before .before .before .before .before .before .before .opt-cond-violation .ensures .0)) (c .before .before .before .before .before .before .before .before .before .before .before .before .before .before .before .before .before .before .before .before .args .settings))),
+  c .before .before .before .before .before .before .before .before .opt-cond-violation .ensures .1,
+  totalled-more _ _ _ (c .before .before .before .before .before .before .before .before .before .before .before .before .before .before .before .before .before .before .before .before .pre .3) (grown-same _ _),
+)
+
+iterate-requires : tie.Need-iterate-requires
+iterate-requires c κs = (
+  ready-still (c .before .before .before .before .before .before .before .before .before .before .before .before .before .before .before .before .before .before .before .before .before .before .before .pre .0) _ _ (c .before .before .before .before .before .before .before .before .before .before .before .opt-cond-violation .last .1 .1 .1 .1 .1 .1 .1 .0) refl refl (c .before .before .before .before .before .before .before .before .before .before .before .opt-cond-violation .kept .1 .1 .1 .1 .1 .1 .1 .0),
+  c .before .before .before .before .before .before .before .before .before .before .before .before .before .before .before .before .before .before .before .before .before .before .before .pre .1,
+  totalled-most _ _ _ (not-last _ _ _ (sym (c .before .before .before .before .before .is-last .ensures) ∙ c .before .before .before .before .if1 .left) (c .before .before .before .before .before .before .before .before .before .before .before .before .before .before .before .before .before .before .before .before .before .before .before .pre .2) (few-iterations _ (c .before .before .before .before .before .before .before .before .before .before .before .before .before .before .before .before .before .before .before .before .before .before .before .pre .0 .legal))) (c .before .before .before .before .before .before .before .before .before .before .before .before .before .before .before .before .before .before .before .before .before .before .before .pre .3),
+  rw (c .before .before .before .before .before .before .before .before .before .before .before .opt-cond-violation .ensures .1) (violations-read _ (c .before .before .before .before .before .before .before .before .before .before .before .before .before .before .before .before .before .before .before .before .before .before .before .args .shape) refl _ _ _ (room-for (c .before .before .before .before .before .before .before .before .before .before .before .before .before .before .before .before .before .before .before .before .before .before .before .pre .0)) _ (found-scratch _ _ _ _ _ _ (sym (ap (λ (r : Worst). measuredOf r (c .before .before .before .before .before .before .before .before .before .before .before .opt-cond-violation .last .1 .1 .1 .1 .1 .1 .1 .0)) (c .before .before .before .before .before .before .before .v .given .1)) ∙ c .before .before .before .before .before .before .before .before .before .before .before .opt-cond-violation .ensures .0))),
+)
+
+same-length-4 : tie.Need-same-length-4
+same-length-4 c = search needs
+
+same-length-5 : tie.Need-same-length-5
+same-length-5 c = search needs
+
+same-length-6 : tie.Need-same-length-6
+same-length-6 c = search needs
+
+returns-2 : tie.Need-returns-2
+returns-2 c = (
+  (λ sets. turn-bad _ _ _ _ _ _ _ _ _ sets (sym (ap (λ (r : Worst). measuredOf r (c .before .before .before .before .opt-cond-violation .last .1 .1 .1 .1 .1 .1 .1 .0)) (c .enum-told .given .1)) ∙ c .before .before .before .before .opt-cond-violation .ensures .0)),
+  c .before .before .before .before .opt-cond-violation .ensures .1,
+  totalled-more _ _ _ (c .before .before .before .before .before .before .before .before .before .before .before .before .before .before .before .before .pre .3) (grown-none _),
+)
+
+same-length-7 : tie.Need-same-length-7
+same-length-7 c = search needs
+
+same-length-8 : tie.Need-same-length-8
+same-length-8 c = search needs
+
+same-length-9 : tie.Need-same-length-9
+same-length-9 c = search needs
+
+same-length-10 : tie.Need-same-length-10
+same-length-10 c = search needs
+
+returns-3 : tie.Need-returns-3
+returns-3 c = (
+  (λ sets. turn-goes-on _ _ _ _ _ _ _ _ _ _ _ _ _ (room-for (c .before .before .before .before .before .before .before .before .before .before .before .before .before .before .before .before .before .before .before .before .before .before .before .before .before .before .before .before .before .before .before .before .pre .0)) (sym (ap (λ (r : Worst). measuredOf r (c .before .before .before .before .before .before .before .before .before .before .before .before .before .before .before .before .before .before .before .before .opt-cond-violation .last .1 .1 .1 .1 .1 .1 .1 .0)) (c .before .before .before .before .before .before .before .before .before .before .before .before .before .before .before .before .v .given .1)) ∙ c .before .before .before .before .before .before .before .before .before .before .before .before .before .before .before .before .before .before .before .before .opt-cond-violation .ensures .0) (c .before .before .before .before .before .before .before .before .before .before .before .before .before .before .before .before .before .before .before .before .opt-cond-violation .ensures .1) _ (c .before .before .before .before .before .before .before .before .before .before .before .before .before .before .is-last .ensures) (c .before .before .before .before .before .before .before .before .before .before .before .before .before .if1 .left) (c .before .before .before .before .before .before .before .before .iterate .result) (c .before .before .before .before .before .before .before .before .iterate .last .1 .1 .1 .1 .1 .1 .1 .0) (c .before .before .before .before .before .before .before .before .iterate .last .1 .1 .1 .1 .1 .1 .1 .1 .0) (c .before .before .before .before .before .before .before .before .iterate .last .1 .1 .1 .1 .1 .1 .1 .1 .1 .1 .0) sets
+      (c .before .before .before .before .before .before .before .before .iterate .ensures .0 sets)),
+  c .before .before .before .before .before .before .before .before .iterate .ensures .1 ∙ c .before .before .before .before .before .before .before .before .before .before .before .before .before .before .before .before .before .before .before .before .opt-cond-violation .ensures .1,
+  totalled-more _ _ _ (c .before .before .before .before .before .before .before .before .before .before .before .before .before .before .before .before .before .before .before .before .before .before .before .before .before .before .before .before .before .before .before .before .pre .3) (c .before .before .before .before .before .before .before .before .iterate .ensures .2),
+)
+
+pub turn-spec : {M : Type 1} → statement M
+turn-spec =
+    tie.close
+    (tie.spec
+    opt-cond-violation-requires
+    enum-told
+    enum-known-v
+    is-last-requires
+    same-length
+    same-length-2
+    same-length-3
+    returns
+    iterate-requires
+    same-length-4
+    same-length-5
+    same-length-6
+    returns-2
+    same-length-7
+    same-length-8
+    same-length-9
+    same-length-10
+    returns-3)

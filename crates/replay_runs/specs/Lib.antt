@@ -1,0 +1,2 @@
+-- What the contracts of a run's record cite.
+pub mod Room

@@ -1,0 +1,20 @@
+// Replays a list of the oracle's answers through the solver. The list's name is the first argument.
+mod fits;
+mod record;
+mod sets;
+
+use vectors::list;
+
+fn main() {
+    let mut path = io::buffer();
+    let length = os::arg(1, &mut path);
+    let mut bytes = io::buffer();
+    let mut words = [0u64; 1024];
+    let mut p = list::open(&path[..length], &mut bytes, &mut words);
+    while p.left > 0 {
+        let verdict = record::replay(&words, p.found);
+        let next = list::next(p, verdict, &path[..length], &mut bytes, &mut words);
+        p = next;
+    }
+    list::end(p);
+}

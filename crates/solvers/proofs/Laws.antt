@@ -1,0 +1,2 @@
+-- Laws on a whole call.
+pub mod Calls
