@@ -2,8 +2,11 @@
 
 use crate::calls::{Designs, Leaves, Runs};
 use crate::designs::Design;
+use crate::files::{bytes, fields, printed};
 use crate::leaves::{Kind, Penalty};
-use crate::runs::{named, FitCase, Outcome, LAYOUTS};
+use crate::random::Random;
+use crate::record::Variant;
+use crate::runs::{any, by_hand, named, FitCase, Outcome, Theme, LAYOUTS};
 use crate::{loops, published};
 
 fn same(what: &str, found: &[f64], expected: &[f64]) -> Result<(), String> {
@@ -90,6 +93,47 @@ fn check_runs<V: Runs>() -> Result<(), String> {
     same("a working set", &set(3), &[2.0, 1.0, 3.0])
 }
 
+/// The listing of document 01's file.
+const LISTING: &str = "status 1
+violation 0000000000000000
+iterations 1
+epochs 11
+extrapolations 0
+w 0 3ff0000000000000
+w 1 0000000000000000
+fit 0 4000000000000000
+fit 1 0000000000000000
+";
+
+fn check_file(variant: Variant) -> Result<(), String> {
+    let [case, _, _] = named(LAYOUTS[0], false);
+    let file = bytes(&fields(&case));
+    if file.len() != 105 {
+        return Err(format!("check: the file has {} bytes", file.len()));
+    }
+    match printed(&file, variant, u64::MAX) {
+        Some(text) if text == LISTING => Ok(()),
+        other => Err(format!("check: the listing is {other:?}")),
+    }
+}
+
+/// Runs built by hand, and drawn ones to which the Rust has an answer: our loops
+/// around its parts have the same.
+fn check_loops<V: Runs>() -> Result<(), String> {
+    let mut random = Random::new(1);
+    let drawn = (0..500).map(|_| {
+        let (theme, layout) = (Theme::drawn(&mut random), random.pick(&LAYOUTS));
+        any(theme, layout, &mut random)
+    });
+    for case in by_hand().into_iter().chain(drawn) {
+        let (rust, ours) = (V::run(&case), V::run_in_our_loops(&case));
+        if !matches!(rust, Outcome::ShortSet) && format!("{rust:?}") != format!("{ours:?}") {
+            return Err(format!("check: {rust:?} but {ours:?} in our loops"));
+        }
+    }
+    Ok(())
+}
+
 pub fn check() -> Result<(), String> {
     check_leaves::<loops::Rust>()?;
     check_leaves::<published::Rust>()?;
@@ -97,6 +141,10 @@ pub fn check() -> Result<(), String> {
     check_designs::<published::Rust>()?;
     check_runs::<loops::Rust>()?;
     check_runs::<published::Rust>()?;
+    check_loops::<loops::Rust>()?;
+    check_loops::<published::Rust>()?;
+    check_file(Variant::Loops)?;
+    check_file(Variant::Published)?;
     println!("ok");
     Ok(())
 }

@@ -7,6 +7,7 @@ mod ask;
 mod calls;
 mod check;
 mod designs;
+mod files;
 mod float;
 mod leaves;
 mod list;
@@ -17,16 +18,19 @@ mod record;
 mod runs;
 mod words;
 
+use record::Variant;
 use std::process::ExitCode;
 
-const USAGE: &str =
-    "usage: oracle ask WORD.. | oracle answer | oracle list leaves|designs|runs SEED COUNT";
+const USAGE: &str = "usage: oracle ask WORD.. | oracle answer | \
+    oracle list leaves|designs|runs SEED COUNT | oracle tile [published] | \
+    oracle files SEED COUNT | oracle damage SEED COUNT | oracle check";
+
+fn decimal(word: &str) -> Result<u64, String> {
+    let number = word.parse::<u64>();
+    number.map_err(|_| format!("{word:?} is not a decimal number"))
+}
 
 fn list(words: &[&str]) -> Result<(), String> {
-    let decimal = |word: &str| {
-        let number = word.parse::<u64>();
-        number.map_err(|_| format!("list: {word:?} is not a decimal number"))
-    };
     match words {
         ["leaves", seed, count] => leaves::LIST.write(decimal(seed)?, decimal(count)?),
         ["designs", seed, count] => designs::LIST.write(decimal(seed)?, decimal(count)?),
@@ -41,6 +45,14 @@ fn run(arguments: &[String]) -> Result<(), String> {
         ["ask", _, ..] => ask::ask(&arguments[1..]),
         ["answer"] => record::answer_all(),
         ["list", ref rest @ ..] => list(rest),
+        ["tile"] => files::tile(Variant::Loops),
+        ["tile", "published"] => files::tile(Variant::Published),
+        ["files", seed, count] => {
+            files::write("files", &files::FILES, decimal(seed)?, decimal(count)?)
+        }
+        ["damage", seed, count] => {
+            files::write("damage", &files::DAMAGES, decimal(seed)?, decimal(count)?)
+        }
         ["check"] => check::check(),
         _ => Err(USAGE.into()),
     }

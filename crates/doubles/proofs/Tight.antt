@@ -7,6 +7,7 @@ use Rattle.doubles.proofs.abs.Reads as abs-reads
 use Rattle.doubles.proofs.signum.Reads as signum-reads
 use Rattle.doubles.proofs.is_finite.Reads as is-finite-reads
 use Rattle.doubles.proofs.larger.Reads as larger-reads
+use Rattle.doubles.proofs.double.Reads as double-reads
 
 -- two values that a promise equates with one are one
 pub coincide : {A : Type 0} {x y z : A} → x ≡ z → y ≡ z → x ≡ y
@@ -23,3 +24,6 @@ is-finite-tight a r r' s p q = coincide p q
 
 larger-tight : (a : _) (r r' : Float) (s : _) → larger-reads.Post tt a r s → larger-reads.Post tt a r' s → r ≡ r'
 larger-tight a r r' s p q = coincide p q
+
+double-tight : (a : _) (r r' : Float) (s : _) → double-reads.Post tt a r s → double-reads.Post tt a r' s → r ≡ r'
+double-tight a r r' s p q = coincide p q

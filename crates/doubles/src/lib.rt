@@ -1,5 +1,6 @@
 // Functions of doubles that Rattle has no operator for. Each equals its definition (specs/Num.antt) on every double.
 ghost use mathlib.Core.Path.{_≡_};
+ghost use lib.Ieee.{binary64, ofBits};
 ghost use Rattle.doubles.specs.Num as num;
 
 // |x|. The test for zero clears the sign of -0.0, which `x < 0.0` does not see.
@@ -54,4 +55,15 @@ pub fn larger(x: f64, y: f64) -> f64
         return y;
     }
     x
+}
+
+// The double with these bits. A NaN's pattern lies above infinity's, the sign aside, and `from_bits` is undefined there.
+pub fn double(word: u64) -> f64
+    ensures { λ r. ⌜ r ≡ ofBits binary64 word ⌝ }
+{
+    if 0x7ff0_0000_0000_0000 < word % 0x8000_0000_0000_0000 {
+        0.0 / 0.0
+    } else {
+        f64::from_bits(word)
+    }
 }

@@ -2,6 +2,7 @@
 ghost use mathlib.Core.Path.{_≡_};
 ghost use Prim.Native.Nat.{_+_, _≤_};
 ghost use lib.ListN.{length, take};
+use doubles::double;
 use leaves::penalties::inner;
 use leaves::penalties::separable;
 use leaves::utils::helpers;
@@ -11,7 +12,6 @@ use leaves::utils::prox_funcs::soft_thresholding;
 use vectors::Words;
 use vectors::answers::same_number;
 use vectors::answers::same_refusal;
-use vectors::double;
 use vectors::parts::penalty_at;
 use vectors::progress::Verdict;
 use vectors::progress::judge;

@@ -1,6 +1,6 @@
 // Compares the port's answers with those of a record.
-use crate::double;
 use crate::same;
+use doubles::double;
 use leaves::Number;
 use leaves::Refusal;
 

@@ -4,7 +4,6 @@ ghost use mathlib.Core.Path.{_≡_};
 ghost use mathlib.Core.Bool.{true};
 ghost use Prim.Native.Nat.{_≤_};
 ghost use lib.ListN.{length};
-ghost use lib.Ieee.{binary64, ofBits};
 ghost use Rattle.vectors.specs.Count.{countOf};
 
 pub mod answers;
@@ -14,17 +13,6 @@ pub mod progress;
 
 // The words of a record, and behind them those of earlier lines. No made record has more.
 pub type Words = [u64; 1024];
-
-// The double with these bits. A NaN's pattern lies above infinity's, the sign aside, and `from_bits` is undefined there.
-pub fn double(word: u64) -> f64
-    ensures { λ r. ⌜ r ≡ ofBits binary64 word ⌝ }
-{
-    if 0x7ff0_0000_0000_0000 < word % 0x8000_0000_0000_0000 {
-        0.0 / 0.0
-    } else {
-        f64::from_bits(word)
-    }
-}
 
 // Whether two doubles are the same: both NaN, or equal with a zero's sign, which only a division shows.
 pub fn same(a: f64, b: f64) -> bool

@@ -5,8 +5,8 @@ ghost use Prim.Native.Nat.{_+_, _≤_};
 ghost use lib.ListN.{length, take};
 ghost use Rattle.vectors.specs.Within.{Within};
 use crate::Words;
-use crate::double;
 use crate::same;
+use doubles::double;
 use leaves::penalties::separable::Penalty;
 
 // Room for any array of a record.

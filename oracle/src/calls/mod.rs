@@ -39,6 +39,13 @@ pub trait Designs {
 pub trait Runs {
     fn run(case: &FitCase) -> Outcome;
 
+    /// As `run`, but the step is skipped where the Rust stops at a working set
+    /// that is too small for it, and a run of more than so much work is given up.
+    fn run_skipping(case: &FitCase, work: u64) -> Outcome;
+
+    /// In the loops that skip, whether the Rust would stop or not.
+    fn run_in_our_loops(case: &FitCase) -> Outcome;
+
     /// The features in the set, in its order.
     fn working_set(weights: &[f64], violations: &[f64], start: usize) -> Vec<u32>;
 }

@@ -9,6 +9,7 @@ use super::glm::penalties::separable::Penalty;
 use super::glm::solvers::anderson_cd::{construct_ws_from_kkt, coordinate_descent};
 use super::leaves::build;
 use super::numbers::{array, doubles};
+use super::skipping::descend;
 use super::{Rust, F};
 use crate::calls::Runs;
 use crate::runs::{outcome, FitCase, Outcome, Watch};
@@ -137,8 +138,8 @@ impl Penalty<F> for WatchedPenalty<'_> {
     }
 }
 
-/// The weights that the Rust gives back.
-fn watched_run<DM>(design: DM, case: &FitCase, watch: &Watch) -> Vec<f64>
+/// The weights that the Rust gives back, or those of its parts in our loops.
+fn watched_run<DM>(design: DM, case: &FitCase, watch: &Watch, skips: bool) -> Vec<f64>
 where
     DM: DesignMatrix<Elem = F>,
     Quadratic<F>: Datafit<F, DM, Array1<F>>,
@@ -158,8 +159,13 @@ where
         penalty: build(&settings.penalty),
         watch,
     };
+    let watched = DatasetBase::new(design, array(&case.targets));
+    if skips {
+        let weights = descend(&watched, &mut datafit, &penalty, settings, depth);
+        return doubles(weights.view());
+    }
     let weights = coordinate_descent(
-        &DatasetBase::new(design, array(&case.targets)),
+        &watched,
         &mut datafit,
         &penalty,
         settings.start as usize,
@@ -175,12 +181,28 @@ where
     doubles(weights.view())
 }
 
+fn watched_outcome(case: &FitCase, work: u64, skips: bool) -> Outcome {
+    outcome(
+        case,
+        work,
+        |watch| by_layout!(&case.design, x => watched_run(x, case, watch, skips)),
+    )
+}
+
 impl Runs for Rust {
     fn run(case: &FitCase) -> Outcome {
-        outcome(
-            case,
-            |watch| by_layout!(&case.design, x => watched_run(x, case, watch)),
-        )
+        watched_outcome(case, u64::MAX, false)
+    }
+
+    fn run_skipping(case: &FitCase, work: u64) -> Outcome {
+        match watched_outcome(case, work, false) {
+            Outcome::ShortSet => watched_outcome(case, work, true),
+            other => other,
+        }
+    }
+
+    fn run_in_our_loops(case: &FitCase) -> Outcome {
+        watched_outcome(case, u64::MAX, true)
     }
 
     fn working_set(weights: &[f64], violations: &[f64], start: usize) -> Vec<u32> {

@@ -17,3 +17,5 @@ mod leaves;
 mod numbers;
 #[path = "../calls/runs.rs"]
 mod runs;
+#[path = "../calls/skipping.rs"]
+mod skipping;

@@ -39,6 +39,7 @@ impl FitCase {
             Outcome::Finished(report) => self.reported(report),
             Outcome::NotFinite(_) => status(7, 0),
             Outcome::ShortSet => unreachable!("only comparable cases are read and made"),
+            Outcome::TooLong => unreachable!("the work is not limited"),
         }
     }
 }

@@ -197,8 +197,17 @@ fn lent(room: Lent, random: &mut Random) -> Lent {
 }
 
 /// A run that the Rust may have no answer to.
-fn any(theme: Theme, layout: Layout, random: &mut Random) -> FitCase {
+pub fn any(theme: Theme, layout: Layout, random: &mut Random) -> FitCase {
     let (design, targets) = problem(theme, layout, random);
+    with_settings(theme, design, targets, random)
+}
+
+pub fn with_settings(
+    theme: Theme,
+    design: Design,
+    targets: Vec<f64>,
+    random: &mut Random,
+) -> FitCase {
     let scale = Scale::of(theme, &design, &targets, random);
     let mut settings = if random.chance(3) {
         scale.limits(random)
@@ -248,6 +257,10 @@ pub fn sound(redrawn: &mut usize, random: &mut Random) -> FitCase {
 /// document 01 keeps.
 pub fn extrapolated(random: &mut Random) -> FitCase {
     let wanted = 1 + random.below(*DEPTHS.end() as usize);
+    extrapolated_from(wanted, random)
+}
+
+pub fn extrapolated_from(wanted: usize, random: &mut Random) -> FitCase {
     loop {
         let (theme, layout) = (Theme::drawn(random), random.pick(&LAYOUTS));
         let case = any(theme, layout, random);

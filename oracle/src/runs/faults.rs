@@ -122,7 +122,7 @@ fn with_less_scratch(case: &mut FitCase, lacking: Fault, random: &mut Random) ->
 }
 
 impl Fault {
-    fn number(&self) -> u32 {
+    pub fn number(&self) -> u32 {
         match self {
             Fault::Input(plan) => plan.number(),
             Fault::Setting(_) => 2,

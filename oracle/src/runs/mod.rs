@@ -13,10 +13,13 @@ mod rules;
 mod sets;
 mod watch;
 
-pub use corners::{named, LAYOUTS};
+pub use cases::{any, extrapolated_from, not_finite, with_settings};
+pub use corners::{by_hand, named, LAYOUTS};
+pub use faults::{faults, spoiled, twice_spoiled};
 pub use list::LIST;
 pub use outcome::{outcome, Outcome};
-pub use watch::{Report, Watch};
+pub use problems::{of_columns, repeated, targets, varied, Theme};
+pub use watch::{NotFinite, Report, Watch};
 
 use crate::designs::Design;
 use crate::leaves::Penalty;

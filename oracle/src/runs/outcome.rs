@@ -1,6 +1,7 @@
-//! How a run ends: with a report, with refusal 7, or in the Rust's own stop.
+//! How a run ends: with a report, with refusal 7, in the Rust's own stop, or
+//! given up.
 
-use super::watch::{NotFinite, Report, Watch};
+use super::watch::{NotFinite, Report, TooLong, Watch};
 use super::FitCase;
 use crate::calls::Runs;
 use crate::{loops, published};
@@ -16,6 +17,8 @@ pub enum Outcome {
     /// places. Document 01 has the step skipped there, which the Rust can't be
     /// made to do, so such a case has no answer.
     ShortSet,
+    /// It took more work than it was given.
+    TooLong,
 }
 
 /// What the stand-in says where the Rust reads outside an array.
@@ -36,11 +39,11 @@ fn silently<T>(action: impl FnOnce() -> T) -> T {
     result
 }
 
-/// Runs the case; `run` asks the Rust, with everything watched, and gives back
-/// its weights.
-pub fn outcome(case: &FitCase, run: impl FnOnce(&Watch) -> Vec<f64>) -> Outcome {
+/// Runs the case with so much work at most (see the watch); `run` asks the Rust,
+/// with everything watched, and gives back its weights.
+pub fn outcome(case: &FitCase, work: u64, run: impl FnOnce(&Watch) -> Vec<f64>) -> Outcome {
     let (samples, features) = (case.targets.len(), case.design.features as usize);
-    let watch = Watch::new(case.settings.iterations, samples, features);
+    let watch = Watch::new(case.settings.iterations, samples, features, work);
     // A run that is cut short leaves nothing that is looked at afterwards.
     let caught = || catch_unwind(AssertUnwindSafe(|| run(&watch)));
     let ended = if case.may_be_short() {
@@ -50,6 +53,7 @@ pub fn outcome(case: &FitCase, run: impl FnOnce(&Watch) -> Vec<f64>) -> Outcome 
     };
     match ended {
         Ok(weights) => Outcome::Finished(watch.report(&weights)),
+        Err(payload) if payload.is::<TooLong>() => Outcome::TooLong,
         Err(payload) => match payload.downcast_ref::<NotFinite>() {
             Some(&number) => Outcome::NotFinite(number),
             None if case.may_be_short() && text(&*payload) == OUTSIDE => Outcome::ShortSet,

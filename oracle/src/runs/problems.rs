@@ -173,7 +173,7 @@ fn correlated(n: usize, p: usize, random: &mut Random) -> Vec<Vec<f64>> {
 }
 
 /// Copies of three columns, with either sign.
-fn repeated(n: usize, p: usize, random: &mut Random) -> Vec<Vec<f64>> {
+pub fn repeated(n: usize, p: usize, random: &mut Random) -> Vec<Vec<f64>> {
     let few: Vec<_> = (0..3)
         .map(|index| column(Theme::Integers, index, n, random))
         .collect();
@@ -219,6 +219,10 @@ fn columns(theme: Theme, n: usize, p: usize, random: &mut Random) -> Vec<Vec<f64
     if p >= MANY {
         return repeated(n, p, random);
     }
+    varied(theme, n, p, random)
+}
+
+pub fn varied(theme: Theme, n: usize, p: usize, random: &mut Random) -> Vec<Vec<f64>> {
     let mut columns = match theme {
         Theme::Correlated => correlated(n, p, random),
         _ => (0..p).map(|j| column(theme, j, n, random)).collect(),
@@ -259,7 +263,7 @@ fn planted(theme: Theme, columns: &[Vec<f64>], random: &mut Random) -> Vec<f64> 
     targets
 }
 
-fn targets(theme: Theme, columns: &[Vec<f64>], random: &mut Random) -> Vec<f64> {
+pub fn targets(theme: Theme, columns: &[Vec<f64>], random: &mut Random) -> Vec<f64> {
     if theme.plantable() && random.chance(50) {
         return planted(theme, columns, random);
     }

@@ -20,6 +20,9 @@ pub enum NotFinite {
     FitEntry,
 }
 
+/// Unwinding carries this where a run is given up.
+pub struct TooLong;
+
 /// What document 01 has a run report, but for the status.
 #[derive(Debug)]
 pub struct Report {
@@ -47,6 +50,8 @@ struct Candidate {
 struct Seen {
     /// So many working sets are built at most.
     iterations: u32,
+    /// The work that is left: a gradient costs as much as there are samples.
+    work: u64,
     /// Checks of all features, of which each but the last has built a working
     /// set.
     checks: u32,
@@ -141,9 +146,10 @@ impl Seen {
 }
 
 impl Watch {
-    pub fn new(iterations: u32, samples: usize, features: usize) -> Watch {
+    pub fn new(iterations: u32, samples: usize, features: usize, work: u64) -> Watch {
         Watch(RefCell::new(Seen {
             iterations,
+            work,
             checks: 0,
             violation: f64::NAN,
             epochs: 0,
@@ -178,6 +184,11 @@ impl Watch {
         assert!(same(&seen.point.fit, fit), "the gradient's fit is another");
         require(gradient.is_finite(), NotFinite::Gradient);
         seen.feature = feature;
+        let cost = fit.len() as u64;
+        if seen.work < cost {
+            resume_unwind(Box::new(TooLong));
+        }
+        seen.work -= cost;
     }
 
     /// A visit asks for the gradient and then, at once, for the new weight.

@@ -44,6 +44,22 @@ module _ {A : Type 0} where
       let e2 : length (take g l ++ xs) ≡ g + length ys = length-append (take g l) xs ∙ rw (e, k) in
       rw (take-at (take g l) (xs ++ drop (g + length xs) l) g e, ← append-assoc (take g l) xs (drop (g + length xs) l), drop-at (take g l ++ xs) (drop (g + length xs) l) (g + length ys) e2, k)
 
+  -- a part put right behind another
+  pub put-behind : (l : List A) (g : ℕ) (xs ys : List A) → g + length xs ≤ length l → put (put l g xs) (g + length xs) ys ≡ put l g (xs ++ ys)
+  unfolding put
+  put-behind l g xs ys h =
+      let front = take g l ++ xs in
+      let rest = drop (g + length xs) l in
+      let e : length front ≡ g + length xs = length-append (take g l) xs ∙ ap (λ (n : ℕ). n + length xs) (length-take-le g l (omega arith)) in
+      let k : g + length xs + length ys ≡ g + length (xs ++ ys) = rw (length-append xs ys) (omega arith) in
+      ap (λ (t : List A). take (g + length xs) t ++ (ys ++ drop (g + length xs + length ys) t)) (sym (append-assoc (take g l) xs rest))
+      ∙ ap (λ (t : List A). t ++ (ys ++ drop (g + length xs + length ys) (front ++ rest))) (take-at front rest (g + length xs) e)
+      ∙ ap (λ (t : List A). front ++ (ys ++ t)) (sym (drop-drop (length ys) (g + length xs) (front ++ rest))
+      ∙ ap (drop (length ys)) (drop-at front rest (g + length xs) e)
+      ∙ drop-drop (length ys) (g + length xs) l
+      ∙ ap (λ (n : ℕ). drop n l) k)
+      ∙ simp append-assoc
+
   -- a part that was lent and came back
   pub put-back : (l : List A) (g n k : ℕ) (xs : List A) → k ≡ n → length xs ≡ n → take g l ++ (xs ++ drop k (drop g l)) ≡ put l g xs
   unfolding put

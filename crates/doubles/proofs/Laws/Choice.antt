@@ -1,10 +1,17 @@
 -- Choices by a test. Assumes nothing.
 use mathlib.Core.Path.{_≡_, refl}
 use mathlib.Core.Bool.{Bool, true, false, false≢true}
+use Prim.Native.Nat.{ℕ, zero, suc, _<_}
+use native.Mathlib.Nat.{zero-lt-suc}
 use lib.Dec.{T}
 use lib.Ieee.{Float}
 use Rattle.doubles.specs.Num.{pick, _and_}
 use Rattle.doubles.specs.Sign.{Turned}
+
+-- a number that is not zero
+pub positive : (n : ℕ) → (n ≡ 0 → ⊥) → 0 < n
+positive zero h = absurd (h refl)
+positive (suc n) h = zero-lt-suc n
 
 pub and-both : (a b : Bool) → a and b ≡ true → (a ≡ true) × (b ≡ true)
 unfolding _and_

@@ -93,6 +93,9 @@ module _ {A : Type 0} (g : ℕ → A) (l : List A) (d : A) where
       tab-rest (n - i) i (h ∙ sym m) (λ j a b. e j a (omega arith)) ∙ ap (tab g) m
 
 -- a table of a list's own places
-pub tab-own : (l : List Float) → tab (at l) (length l) ≡ l
+pub tab-getD : {A : Type 0} (l : List A) (d : A) → tab (λ i. getD l i d) (length l) ≡ l
 unfolding steps
-tab-own l = sym (tab-filled (at l) l nan 0 (length l) refl (omega arith) (λ j a b. refl))
+tab-getD l d = sym (tab-filled (λ i. getD l i d) l d 0 (length l) refl (omega arith) (λ j a b. refl))
+
+pub tab-own : (l : List Float) → tab (at l) (length l) ≡ l
+tab-own l = tab-getD l nan

@@ -1,8 +1,8 @@
 -- One epoch, from what its parts answer to its definition. Assumes nothing.
 use mathlib.Core.Path.{_≡_, refl, sym, ap, _∙_}
 use mathlib.Core.Bool.{Bool, true, false}
-use Prim.Native.Nat.{ℕ, zero, suc, _+_, _*_, _≤_, _<_}
-use native.Mathlib.Nat.{le-of-eq, le-trans, le-refl, zero-lt-suc}
+use Prim.Native.Nat.{ℕ, _+_, _*_, _≤_}
+use native.Mathlib.Nat.{le-of-eq, le-trans, le-refl}
 use native.Mathlib.Omega.{arith}
 use mathlib.Core.List.{List}
 use lib.Dec.{eqb}
@@ -132,7 +132,3 @@ module _ (T : Task) (y : List Float) (S : Settings) (ws : List ℕ) (outer : Flo
         → x ≡ epoch T y S ws outer e (innerOf c w fit kept)
     unfolding settled
     epoch-checked b eb hb x ex = ex ∙ (rw (← eb, hb) at epoch-settled)
-
-pub positive : (e : ℕ) → (e ≡ 0 → ⊥) → 0 < e
-positive zero h = absurd (h refl)
-positive (suc e) h = zero-lt-suc e

@@ -2,7 +2,7 @@
 use Rattle.doubles.specs.Num.{_and_}
 use Rattle.runs.specs.Run.{checks}
 use borrow.Author.Tests.{lt-ltb}
-use Rattle.loops.proofs.Laws.Epochs.{positive}
+use Rattle.doubles.proofs.Laws.Choice.{positive}
 use Rattle.loops.proofs.is_check_due.Statement.{statement}
 use Rattle.loops.proofs.is_check_due.Tie as tie
 

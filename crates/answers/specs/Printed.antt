@@ -1,0 +1,36 @@
+-- What the program prints for the bytes on its standard input: the listing of the problem's fit, or the line of its refusal.
+use mathlib.Core.List.{List}
+use Prim.Native.Nat.{ℕ}
+use lib.Dec.{leb}
+use lib.ListN.{length, take, replicate}
+use Rattle.doubles.specs.Num.{#0, pick}
+use Rattle.doubles.specs.Buffer.{put}
+use Rattle.leaves.specs.Answer.{Outcome, refused, answered}
+use Rattle.runs.specs.Call.{Lent, fitCall, fitLeft}
+use Rattle.runs.specs.declared.Report.{Report}
+use Rattle.files.specs.Call.{Problem, parsed}
+use Rattle.listings.specs.Listing.{refusedLine, listed}
+
+-- what the program lends to a fit: room for its largest sizes, n = 256, p = 32 and K = 10
+abbrev pub lentPlaces : Lent
+lentPlaces = record { weights = replicate 32 #0; fit = replicate 256 #0; indices = replicate 32 0; scratch = replicate 1056 #0 }
+
+unfoldable pub fitted : Problem → Outcome Report
+fitted P = fitCall (P .shape) (P .starts) (P .rows) (P .values) (P .targets) (P .settings) lentPlaces
+
+unfoldable pub left : Problem → Lent
+left P = fitLeft (P .shape) (P .starts) (P .rows) (P .values) (P .targets) (P .settings) lentPlaces
+
+abbrev pub printedFor : Outcome Problem → List ℕ
+printedFor (refused number place) = refusedLine number place
+printedFor (answered P) = listed (fitted P) (take (P .shape .p) (left P .weights)) (take (P .shape .n) (left P .fit))
+
+unfoldable pub printed : List ℕ → List ℕ
+printed f = printedFor (parsed f)
+
+-- ---- the call has 8,192 lent bytes at least, else 3
+unfoldable pub answerCall : List ℕ → List ℕ → Outcome ℕ
+answerCall f out = pick (leb 8192 (length out)) (answered (length (printed f))) (refused 3 0)
+
+unfoldable pub answerLeft : List ℕ → List ℕ → List ℕ
+answerLeft f out = pick (leb 8192 (length out)) (put out 0 (printed f)) out

@@ -1,0 +1,116 @@
+-- A problem as a file: document 01's section "Problem file and listing" the other way round. The reader takes it back (proofs/RoundTrip).
+use mathlib.Core.Path.{_≡_}
+use mathlib.Core.Bool.{Bool, true, false}
+use mathlib.Core.List.{List, [], _∷_, _++_, flatMap}
+use Prim.Native.Nat.{ℕ, zero, suc, _/_, _%_, _≤_, _<_}
+use lib.Dec.{T}
+use lib.ListN.{length, getD}
+use lib.Ieee.{Float, binary64, fits, toBits}
+use Rattle.doubles.specs.Num.{at, #0}
+use Rattle.leaves.specs.declared.penalties.separable.Penalty.{Penalty}
+use Rattle.leaves.specs.declared.penalties.separable.Penalty.the-variants.{L1, L1PlusL2, MCP}
+use Rattle.designs.specs.declared.Layout.{Layout}
+use Rattle.designs.specs.declared.Layout.the-variants.{Dense, Csc}
+use Rattle.designs.specs.declared.Shape.{Shape}
+use Rattle.runs.specs.declared.Settings.{Settings}
+use Rattle.files.specs.Call.{Problem}
+
+-- ---- "all little-endian": the lowest byte first
+unfoldable pub bytes : ℕ → ℕ → List ℕ
+bytes zero n = []
+bytes (suc k) n = n % 256 ∷ bytes k (n / 256)
+
+abbrev pub bytes16 : ℕ → List ℕ
+bytes16 n = bytes 2 n
+
+abbrev pub bytes32 : ℕ → List ℕ
+bytes32 n = bytes 4 n
+
+abbrev pub bytes64 : ℕ → List ℕ
+bytes64 n = bytes 8 n
+
+-- a double by its bits; a NaN's are 0x7ff8_0000_0000_0000
+abbrev pub bytesOf : Float → List ℕ
+bytesOf x = bytes64 (toBits binary64 x)
+
+-- ---- "fields of one-byte tag, two-byte length, body"
+unfoldable pub field : ℕ → List ℕ → List ℕ
+field tag body = tag ∷ (bytes16 (length body) ++ body)
+
+-- "design 0 dense/1 CSC, penalty 0 L1/1 L1PlusL2/2 MCP, extrapolate 0/1"
+abbrev pub designCode : Layout → ℕ
+designCode Dense = 0
+designCode Csc = 1
+
+abbrev pub penaltyCode : Penalty → ℕ
+penaltyCode (L1 alpha) = 0
+penaltyCode (L1PlusL2 alpha ratio) = 1
+penaltyCode (MCP alpha gamma) = 2
+
+abbrev pub extrapolateCode : Bool → ℕ
+extrapolateCode false = 0
+extrapolateCode true = 1
+
+abbrev pub alphaOf : Penalty → Float
+alphaOf (L1 alpha) = alpha
+alphaOf (L1PlusL2 alpha ratio) = alpha
+alphaOf (MCP alpha gamma) = alpha
+
+-- "second number (f64; ignored for L1)"
+abbrev pub secondOf : Penalty → Float
+secondOf (L1 alpha) = #0
+secondOf (L1PlusL2 alpha ratio) = ratio
+secondOf (MCP alpha gamma) = gamma
+
+-- "48 bytes: n, p (u32); design .., penalty .., extrapolate .., K (one byte each); start, iterations, epochs (u32); tolerance, alpha, second number"
+unfoldable pub header : Shape → Settings → List ℕ
+header a s =
+    bytes32 (a .n) ++ bytes32 (a .p) ++ (designCode (a .layout) ∷ penaltyCode (s .penalty) ∷ extrapolateCode (s .extrapolate) ∷ bytes 1 (s .depth))
+    ++ bytes32 (s .start) ++ bytes32 (s .iterations) ++ bytes32 (s .epochs)
+    ++ bytesOf (s .tolerance) ++ bytesOf (alphaOf (s .penalty)) ++ bytesOf (secondOf (s .penalty))
+
+-- "tags 4 or 5 in a dense file are refused"
+abbrev pub sparse : Layout → List ℕ → List ℕ → List ℕ
+sparse Dense starts rows = []
+sparse Csc starts rows = field 4 (flatMap bytes32 starts) ++ field 5 (flatMap bytes32 rows)
+
+-- "Tag 1 comes first"; "Tag 2 targets, 3 values, 4 starts, 5 row indices". A file has at most 49,152 bytes, so one field of each is enough
+unfoldable pub written : Problem → List ℕ
+written P =
+    field 1 (header (P .shape) (P .settings))
+    ++ (field 2 (flatMap bytesOf (P .targets)) ++ (field 3 (flatMap bytesOf (P .values)) ++ sparse (P .shape .layout) (P .starts) (P .rows)))
+
+-- ---- which problems a file can hold: "n ≤ 256, p ≤ 32, stored ≤ 4,096", and each number within its bytes
+abbrev pub Double : Float → Type 0
+Double x = T (fits binary64 x)
+
+abbrev pub Doubles : List Float → Type 0
+Doubles xs = (i : ℕ) → i < length xs → Double (at xs i)
+
+abbrev pub Word : ℕ → Type 0
+Word n = n < 4294967296
+
+abbrev pub Words : List ℕ → Type 0
+Words ns = (i : ℕ) → i < length ns → Word (getD ns i 0)
+
+-- a penalty's own numbers
+abbrev pub OwnDoubles : Penalty → Type 0
+OwnDoubles (L1 alpha) = Double alpha
+OwnDoubles (L1PlusL2 alpha ratio) = Double alpha × Double ratio
+OwnDoubles (MCP alpha gamma) = Double alpha × Double gamma
+
+pub record Fitting (P : Problem) : Type 0 where
+  pub samples : P .shape .n ≤ 256
+  pub features : P .shape .p ≤ 32
+  pub stored : length (P .values) ≤ 4096
+  pub depth : P .settings .depth < 256
+  pub start : Word (P .settings .start)
+  pub iterations : Word (P .settings .iterations)
+  pub epochs : Word (P .settings .epochs)
+  pub tolerance : Double (P .settings .tolerance)
+  pub penalty : OwnDoubles (P .settings .penalty)
+  pub targets : Doubles (P .targets)
+  pub values : Doubles (P .values)
+  pub starts : Words (P .starts)
+  pub rows : Words (P .rows)
+  pub dense : P .shape .layout ≡ Dense → (P .starts ≡ []) × (P .rows ≡ [])

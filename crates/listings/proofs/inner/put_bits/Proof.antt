@@ -1,0 +1,41 @@
+-- `put_bits`: what `io` spelt, at the width of 16. Assumes nothing.
+use mathlib.Core.Path.{ap, _∙_}
+use native.Mathlib.Omega.{arith}
+use Rattle.listings.specs.Listing.{hex16}
+use Rattle.listings.proofs.Laws.Digits.{hex-is}
+use borrow.Author.Needs.{needs}
+use Rattle.listings.proofs.inner.put_bits.Statement.{statement}
+use Rattle.listings.proofs.inner.put_bits.Tie as tie
+
+bits-of-requires : tie.Need-bits-of-requires
+bits-of-requires c κs = search needs
+
+hex-requires : tie.Need-hex-requires
+hex-requires c κs = search needs
+
+array-share-prefix-text : tie.Need-array-share-prefix-text
+array-share-prefix-text c = search needs
+
+slice-aggregate-put-text : tie.Need-slice-aggregate-put-text
+slice-aggregate-put-text c = search needs
+
+put-text-requires : tie.Need-put-text-requires
+put-text-requires c κs = rw (hex-is _ _ _ (omega arith) (c .before .before .hex .ensures .1 .0) (c .before .before .hex .ensures .1 .1) ∙ ap hex16 (c .before .before .before .before .bits-of .ensures)) (c .before .before .before .before .before .before .pre)
+
+same-length : tie.Need-same-length
+same-length c = search needs
+
+returns : tie.Need-returns
+returns c = rw (hex-is _ _ _ (omega arith) (c .before .before .before .before .before .hex .ensures .1 .0) (c .before .before .before .before .before .hex .ensures .1 .1) ∙ ap hex16 (c .before .before .before .before .before .before .before .bits-of .ensures)) at (c .before .before .put-text .ensures)
+
+pub put-bits-spec : {M : Type 1} → statement M
+put-bits-spec =
+    tie.close
+    (tie.spec
+    bits-of-requires
+    hex-requires
+    array-share-prefix-text
+    slice-aggregate-put-text
+    put-text-requires
+    same-length
+    returns)
