@@ -22,7 +22,7 @@ use record::Variant;
 use std::process::ExitCode;
 
 const USAGE: &str = "usage: oracle ask WORD.. | oracle answer | \
-    oracle list leaves|designs|runs SEED COUNT | oracle tile [published] | \
+    oracle list leaves|designs|runs|tiles SEED COUNT | oracle tile [published] | \
     oracle files SEED COUNT | oracle damage SEED COUNT | oracle check";
 
 fn decimal(word: &str) -> Result<u64, String> {
@@ -35,6 +35,7 @@ fn list(words: &[&str]) -> Result<(), String> {
         ["leaves", seed, count] => leaves::LIST.write(decimal(seed)?, decimal(count)?),
         ["designs", seed, count] => designs::LIST.write(decimal(seed)?, decimal(count)?),
         ["runs", seed, count] => runs::LIST.write(decimal(seed)?, decimal(count)?),
+        ["tiles", seed, count] => files::list(decimal(seed)?, decimal(count)?),
         _ => Err(USAGE.into()),
     }
 }

@@ -11,7 +11,7 @@ use doubles::double;
 use leaves::Number;
 use leaves::Refusal;
 use vectors::Words;
-use vectors::answers::same_number;
+use vectors::outcomes::same_number;
 use vectors::parts::Doubles;
 use vectors::parts::Part;
 use vectors::parts::all_narrow;

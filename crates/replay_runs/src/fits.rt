@@ -12,7 +12,7 @@ use runs::Report;
 use runs::Settings;
 use solvers::coordinate_descent;
 use vectors::Words;
-use vectors::answers::same_refusal;
+use vectors::outcomes::same_refusal;
 use vectors::parts::Doubles;
 use vectors::parts::Indices;
 use vectors::parts::Part;

@@ -3,7 +3,7 @@
 ghost use Prim.Native.Nat.{_+_, _≤_};
 ghost use Rattle.vectors.specs.Within.{Within};
 use vectors::Words;
-use vectors::answers::same_refusal;
+use vectors::outcomes::same_refusal;
 use vectors::parts::Part;
 use vectors::parts::all_narrow;
 use vectors::parts::doubles_of;

@@ -6,8 +6,8 @@ ghost use Prim.Native.Nat.{_≤_};
 ghost use lib.ListN.{length};
 ghost use Rattle.vectors.specs.Count.{countOf};
 
-pub mod answers;
 pub mod list;
+pub mod outcomes;
 pub mod parts;
 pub mod progress;
 
@@ -88,7 +88,7 @@ fn commented(r: Reader) -> Reader
 }
 
 // What a hex digit counts, and 16 for any other byte.
-fn digit(byte: u8) -> u8 {
+pub fn digit(byte: u8) -> u8 {
     match byte {
         b'0'..=b'9' => byte - b'0',
         b'a'..=b'f' => byte - b'a' + 10,

@@ -41,14 +41,9 @@ pub fn next(
     read_on(progress::count(p, verdict), path, bytes, words)
 }
 
-// The list is over: it is closed and the counts are printed. Of a list that did not open there is nothing to say.
+// The list is over.
 pub fn end(p: Progress) {
-    let fd = p.fd;
-    if fd < 0 {
-        return;
-    }
-    libc::close(fd);
-    progress::print_end(p);
+    progress::end(p.fd, p.counts);
 }
 
 // There is no more to read.

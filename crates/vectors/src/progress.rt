@@ -22,6 +22,12 @@ pub fn judge(is_same: bool) -> Verdict {
     }
 }
 
+// The records so far, and those of them that differ or are bad.
+pub struct Counts {
+    pub cases: u64,
+    pub differ: u64,
+}
+
 // How far a list was read.
 pub struct Progress {
     // The list's file, negative where it did not open.
@@ -37,9 +43,15 @@ pub struct Progress {
     // The line begun and its number.
     pub reader: Reader,
     pub line: u64,
-    // The records so far.
-    pub cases: u64,
-    pub differ: u64,
+    pub counts: Counts,
+}
+
+// Before the first record.
+pub fn no_counts() -> Counts {
+    Counts {
+        cases: 0,
+        differ: 0,
+    }
 }
 
 // Before the first byte.
@@ -54,8 +66,7 @@ pub fn begin(fd: i32) -> Progress
         found: 0,
         reader: start(),
         line: 1,
-        cases: 0,
-        differ: 0,
+        counts: no_counts(),
     }
 }
 
@@ -64,30 +75,40 @@ pub fn one_more(n: u64) -> u64 {
     std::num::wrapping_add_u64(n, 1)
 }
 
+// One more record, of which `wrong` are wrong: 1 or 0.
+pub fn counted(c: Counts, wrong: u64) -> Counts {
+    Counts {
+        cases: one_more(c.cases),
+        differ: std::num::wrapping_add_u64(c.differ, wrong),
+    }
+}
+
+// Whether a record that differs or is bad is named. Only the first twenty are.
+pub fn is_named(c: Counts) -> bool {
+    c.differ < 20
+}
+
 fn print_line(line: u64, what: &[u8]) {
     io::write_all(STDOUT_FILENO, b"line ");
     io::print_decimal(STDOUT_FILENO, line);
     io::write_all(STDOUT_FILENO, what);
 }
 
-// Names a record that differs or is bad. Only the first twenty are named.
+// Names a record that differs or is bad, by its line.
 fn name_wrong(p: Progress, what: &[u8]) {
-    if p.differ < 20 {
+    if is_named(p.counts) {
         print_line(p.line, what);
     }
 }
 
-// One more record, of which `wrong` are wrong: 1 or 0.
 fn add_record(mut p: Progress, wrong: u64) -> Progress
     requires { ⌜ Kept p ⌝ }
     ensures { λ r. ⌜ Kept r × (r .left ≡ p .left) ⌝ }
 {
     let line = one_more(p.line);
-    let cases = one_more(p.cases);
-    let differ = std::num::wrapping_add_u64(p.differ, wrong);
+    let counts = counted(p.counts, wrong);
     p.line = line;
-    p.cases = cases;
-    p.differ = differ;
+    p.counts = counts;
     p.found = 0;
     p
 }
@@ -111,9 +132,18 @@ pub fn count(p: Progress, verdict: Verdict) -> Progress
 }
 
 // The last line: how many records there were, and how many of them differ or are bad.
-pub fn print_end(p: Progress) {
-    io::print_decimal(STDOUT_FILENO, p.cases);
+fn print_counts(c: Counts) {
+    io::print_decimal(STDOUT_FILENO, c.cases);
     io::write_all(STDOUT_FILENO, b" cases, ");
-    io::print_decimal(STDOUT_FILENO, p.differ);
+    io::print_decimal(STDOUT_FILENO, c.differ);
     io::write_all(STDOUT_FILENO, b" differ\n");
+}
+
+// The list is over: it is closed and the counts are printed. Of a list that did not open there is nothing to say.
+pub fn end(fd: i32, counts: Counts) {
+    if fd < 0 {
+        return;
+    }
+    libc::close(fd);
+    print_counts(counts);
 }

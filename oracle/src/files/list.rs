@@ -18,19 +18,24 @@ pub struct Family {
     pub make: fn(&mut Random) -> Vec<u8>,
 }
 
-struct Made {
-    family: &'static str,
-    file: Vec<u8>,
-    loops: String,
+pub struct Made {
+    pub family: &'static str,
+    pub file: Vec<u8>,
+    pub loops: String,
     /// Where it is another.
     published: Option<String>,
+}
+
+/// Two for each byte.
+pub fn digits(bytes: &[u8]) -> String {
+    bytes.iter().map(|byte| format!("{byte:02x}")).collect()
 }
 
 fn hex(bytes: &[u8]) -> String {
     if bytes.is_empty() {
         return "-".into();
     }
-    bytes.iter().map(|byte| format!("{byte:02x}")).collect()
+    digits(bytes)
 }
 
 impl Made {
@@ -46,7 +51,7 @@ impl Made {
 }
 
 /// Every family comes once, then as its share has it.
-fn drawn<'a>(families: &'a [Family], index: usize, random: &mut Random) -> &'a Family {
+pub fn drawn<'a>(families: &'a [Family], index: usize, random: &mut Random) -> &'a Family {
     if let Some(family) = families.get(index) {
         return family;
     }
@@ -63,7 +68,7 @@ fn drawn<'a>(families: &'a [Family], index: usize, random: &mut Random) -> &'a F
 }
 
 /// Also counts the files that were given up.
-fn made(family: &Family, given_up: &mut usize, random: &mut Random) -> Made {
+pub fn made(family: &Family, given_up: &mut usize, random: &mut Random) -> Made {
     loop {
         let file = (family.make)(random);
         let loops = printed(&file, Variant::Loops, WORK);
@@ -92,6 +97,22 @@ fn outcomes(made: &[Made]) -> String {
     counts.join(", ")
 }
 
+/// What a list says of itself: how it was made, and how often each outcome comes.
+pub fn comments(command: &str, how: &[&str], made: &[Made], given_up: usize) -> Vec<String> {
+    let otherwise = made.iter().filter(|made| made.published.is_some()).count();
+    let mut lines = vec![format!("made by: oracle {command}")];
+    lines.extend(how.iter().map(|line| line.to_string()));
+    lines.extend([
+        outcomes(made),
+        format!("redrawn because the run was too long: {given_up}"),
+        format!("published prints otherwise for {otherwise} files"),
+    ]);
+    lines
+}
+
+const HOW: [&str; 1] =
+    ["FAMILY FILE PRINTED, and PUBLISHED where that prints otherwise; bytes in hex, - for none"];
+
 /// The list of a command; the same seed and count always give the same.
 pub fn write(command: &str, families: &[Family], seed: u64, count: u64) -> Result<(), String> {
     let mut random = Random::new(seed);
@@ -102,18 +123,10 @@ pub fn write(command: &str, families: &[Family], seed: u64, count: u64) -> Resul
             made(family, &mut given_up, &mut random)
         })
         .collect();
-    let otherwise = made.iter().filter(|made| made.published.is_some()).count();
 
     let mut out = io::BufWriter::new(io::stdout().lock());
-    let header = [
-        format!("made by: oracle {command} {seed} {count}"),
-        "FAMILY FILE PRINTED, and PUBLISHED where that prints otherwise; bytes in hex, - for none"
-            .into(),
-        outcomes(&made),
-        format!("redrawn because the run was too long: {given_up}"),
-        format!("published prints otherwise for {otherwise} files"),
-    ];
-    for line in header {
+    let command = format!("{command} {seed} {count}");
+    for line in comments(&command, &HOW, &made, given_up) {
         writeln!(out, "# {line}").map_err(unwritable)?;
     }
     for made in &made {

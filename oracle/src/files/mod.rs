@@ -10,12 +10,14 @@ mod large;
 mod layout;
 mod list;
 mod listing;
+mod replay;
 mod sound;
 
 pub use families::{DAMAGES, FILES};
 pub use fields::{bytes, fields};
 pub use list::write;
 pub use listing::printed;
+pub use replay::list;
 
 use crate::record::{unwritable, Variant};
 use std::io::{self, Read, Write};
