@@ -1,0 +1,129 @@
+-- Demand 3 in its plain cases: the second call is given the very numbers of the first, negated. Assumes nothing.
+use mathlib.Core.Path.{_≡_, refl, sym, _∙_}
+use mathlib.Core.Bool.{Bool, true, false, false≢true}
+use mathlib.Core.List.{List, [], _∷_}
+use Prim.Native.Nat.{ℕ, zero, suc, _+_, _*_, _%_, _≤_, _<_}
+use native.Mathlib.Nat.{le-refl, le-trans, lt-of-lt-of-le, not-suc-le-zero, mod-eq-of-lt, mul-add-mod-self-right}
+use native.Mathlib.Numerals.{add-one}
+use native.Mathlib.Omega.{arith}
+use borrow.Author.Count.{below-more}
+use borrow.Author.Tests.{le-leb, lt-leb}
+use lib.ListN.{getD}
+use lib.Ieee.{Float, unlike}
+use Rattle.doubles.specs.Sign.{Turned, Signs, none, more}
+use Rattle.doubles.proofs.Laws.Turned.{turned-refl, turned-by}
+use Rattle.doubles.proofs.Laws.Signs.{signs-at}
+use Rattle.doubles.specs.Steps.{steps, Stage}
+use Rattle.designs.specs.Design.{dense, csc, laid}
+use Rattle.designs.specs.Sound.{Rising, Held}
+use Rattle.designs.specs.declared.Layout.{Layout}
+use Rattle.designs.specs.declared.Layout.the-variants.{Dense, Csc}
+use Rattle.designs.specs.declared.Shape.{Shape}
+use Rattle.leaves.specs.Answer.{refused, answered}
+use Rattle.designs.specs.Checks.{none as no-fault}
+use Rattle.runs.specs.WorkingSet.{isZero}
+use Rattle.runs.specs.Run.{State}
+use Rattle.runs.specs.Call.{Lent, fitFault, fitted, weightsOf, fitEntries, fitCall}
+use Rattle.runs.specs.declared.Report.{Report}
+use Rattle.runs.specs.declared.Settings.{Settings}
+use Rattle.signs.specs.Turning.{TurnedState, Both, both-going, both-stopped, both-bad, SameCall, turned, signsOf}
+use Rattle.signs.proofs.Laws.Exact.{signs-zeros}
+use Rattle.signs.proofs.Laws.Sets.{zero-same}
+use Rattle.signs.proofs.SignLaw.{passed, sign-law-passed, sign-law}
+
+signs-of : (s : ℕ → Bool) (xs : List Float) → Signs s xs (turned s xs)
+unfolding turned
+signs-of s [] = none
+signs-of s (x ∷ xs) = more (turned-by (s 0) x) (signs-of (λ (k : ℕ). s (suc k)) xs)
+
+signs-refl : (xs : List Float) → Signs (λ (i : ℕ). false) xs xs
+signs-refl [] = none
+signs-refl (x ∷ xs) = more turned-refl (signs-refl xs)
+
+-- "turn all targets": for every design and all settings
+pub targets-turned : (s : Shape) (starts rows : List ℕ) (values y : List Float) (S : Settings) (b : Lent)
+    → SameCall (λ (j : ℕ). false) true s starts rows values values y (turned (λ (i : ℕ). true) y) S b
+targets-turned s starts rows values y S b =
+    sign-law
+    (record {
+      signs = λ (i : ℕ). false;
+      stored = signs-refl values;
+      columns = λ j k l m. turned-refl;
+      targets = signs-of (λ (i : ℕ). true) y;
+      off = λ e j. refl;
+    })
+    b
+
+-- ---- a stored entry's sign is its column's
+dense-sign : (k p j : ℕ) → j < p → (k * p + j) % p ≡ j
+dense-sign k p j h = mul-add-mod-self-right k p j ∙ mod-eq-of-lt h
+
+module _ {p m : ℕ} {starts : List ℕ} (R : Rising p m starts) where
+  no-fall : (b k : ℕ) → k < b + 1 → b ≤ p → getD starts k 0 ≤ getD starts b 0
+  no-fall zero k l h = below-more (λ (k : ℕ). getD starts k 0 ≤ getD starts 0 0) 0 (λ k l. absurd (not-suc-le-zero l)) (le-refl (getD starts 0 0)) k l
+  no-fall (suc b) k l h =
+      below-more (λ (k : ℕ). getD starts k 0 ≤ getD starts (suc b) 0) (suc b)
+      (λ k l. le-trans (no-fall b k (omega arith) (omega arith)) (rw add-one at (R .up b (omega arith))))
+      (le-refl (getD starts (suc b) 0)) k l
+
+  csc-sign : (c : ℕ → Bool) (i q : ℕ) → q ≤ p → (j : ℕ) → j < q → getD starts j 0 ≤ i → i < getD starts (j + 1) 0 → signsOf Csc c q starts i ≡ c j
+  unfolding signsOf steps
+  csc-sign c i zero h j l a b = absurd (not-suc-le-zero l)
+  csc-sign c i (suc q) h j l a b =
+      below-more (λ (k : ℕ). getD starts k 0 ≤ i → i < getD starts (k + 1) 0 → signsOf Csc c (suc q) starts i ≡ c k) q
+      (λ k l a b.
+      let d : i < getD starts q 0 = lt-of-lt-of-le b (no-fall q (k + 1) (omega arith) (omega arith)) in
+      rw (lt-leb (getD starts q 0) i d) (csc-sign c i q (omega arith) k l a b))
+      (λ a b. rw (le-leb (getD starts q 0) i a))
+      j (omega arith) a b
+
+entry-turned : (c : ℕ → Bool) (l : Layout) (n p : ℕ) (starts rows : List ℕ) {values values' : List Float} → Held l n p starts rows values
+    → Signs (signsOf l c p starts) values values' → (j k : ℕ) → j < p → k < laid l n p starts rows values .many j
+    → Turned (c j) (laid l n p starts rows values .value j k) (laid l n p starts rows values' .value j k)
+unfolding laid dense csc Held signsOf
+entry-turned c Dense n p starts rows H v j k l m = rw (dense-sign k p j l) at (signs-at v (k * p + j))
+entry-turned c Csc n p starts rows H v j k l m =
+    let a = getD starts j 0 in
+    rw (csc-sign (H .rising) c (a + k) p (le-refl p) j l (omega arith) (omega arith)) at (signs-at v (a + k))
+
+-- "(extrapolation off) any set of columns, or both": for every design
+pub columns-turned : (c : ℕ → Bool) (t : Bool) (s : Shape) (starts rows : List ℕ) (values y : List Float) (S : Settings) (b : Lent) → S .extrapolate ≡ false
+    → SameCall c t s starts rows values (turned (signsOf (s .layout) c (s .p) starts) values) y (turned (λ (i : ℕ). t) y) S b
+columns-turned c t s starts rows values y S b off =
+    let σ = signsOf (s .layout) c (s .p) starts in
+    sign-law-passed b (signs-of σ values) (signs-of (λ (i : ℕ). t) y)
+    (λ e. record {
+      signs = σ;
+      stored = signs-of σ values;
+      columns = entry-turned c (s .layout) (s .n) (s .p) starts rows (passed s starts rows values y S b e .1 .whole) (signs-of σ values);
+      targets = signs-of (λ (i : ℕ). t) y;
+      off = λ e j. absurd (false≢true (sym off ∙ e));
+    })
+
+-- ---- what follows from a call's law
+module _ {c : ℕ → Bool} {t : Bool} {s : Shape} {starts rows : List ℕ} {values values' y y' : List Float} {S : Settings} {b : Lent}
+    (law : SameCall c t s starts rows values values' y y' S b) where
+  -- a NaN target is refused with 6 at the same place, and so is whatever else is refused
+  pub refused-both : (number place : ℕ) → fitCall s starts rows values y S b ≡ refused number place → fitCall s starts rows values' y' S b ≡ refused number place
+  refused-both number place e = sym (law .answer) ∙ e
+
+  -- the tolerance is met by both or by none: the report is the same
+  pub report-both : (r : Report) → fitCall s starts rows values y S b ≡ answered r → fitCall s starts rows values' y' S b ≡ answered r
+  report-both r e = sym (law .answer) ∙ e
+
+  -- what the call leaves in the lent weights and fit turns, where it is not refused with 1 to 6: at refusal 7 both are zeros
+  pub left-turned : fitFault s starts rows values y S b ≡ no-fault
+      → Signs (λ (j : ℕ). unlike (c j) t) (weightsOf (s .p) (fitted s starts rows values y S)) (weightsOf (s .p) (fitted s starts rows values' y' S))
+      × Signs (λ (i : ℕ). t) (fitEntries (s .n) (fitted s starts rows values y S)) (fitEntries (s .n) (fitted s starts rows values' y' S))
+  left-turned e = go _ _ (law .run e)
+    where
+      go : (r r' : Stage State) → Both (TurnedState c t S) r r'
+          → Signs (λ (j : ℕ). unlike (c j) t) (weightsOf (s .p) r) (weightsOf (s .p) r') × Signs (λ (i : ℕ). t) (fitEntries (s .n) r) (fitEntries (s .n) r')
+      go _ _ (both-going u) = (signs-zeros _ (s .p), signs-zeros _ (s .n))
+      go _ _ (both-stopped u) = (u .point .weights, u .point .fit)
+      go _ _ both-bad = (signs-zeros _ (s .p), signs-zeros _ (s .n))
+
+  -- a weight is left zero by both or by none
+  pub zeros-both : fitFault s starts rows values y S b ≡ no-fault → (j : ℕ)
+      → isZero (weightsOf (s .p) (fitted s starts rows values y S)) j ≡ isZero (weightsOf (s .p) (fitted s starts rows values' y' S)) j
+  zeros-both e j = zero-same (left-turned e .0) j

@@ -1,0 +1,2 @@
+-- What a reader believes of demand 3.
+pub mod Turning

@@ -1,0 +1,69 @@
+-- Demand 3: "turn all targets, or (extrapolation off) any set of columns, or both: same refusal and place, or same status, counts, violation and
+-- working sets, and weights and fit turn as they must (a zero's own sign disregarded)".
+use mathlib.Core.Path.{_≡_}
+use mathlib.Core.Bool.{Bool, true, false}
+use mathlib.Core.List.{List, [], _∷_}
+use Prim.Native.Nat.{ℕ, suc, _%_, _<_}
+use lib.Dec.{leb}
+use lib.ListN.{getD}
+use lib.Ieee.{Float, unlike}
+use Rattle.doubles.specs.Num.{pick}
+use Rattle.doubles.specs.Sign.{flip, Turned, Signs}
+use Rattle.doubles.specs.Steps.{steps, Stage, going, stopped, bad}
+use Rattle.designs.specs.Design.{design}
+use Rattle.designs.specs.Checks.{none}
+use Rattle.designs.specs.declared.Layout.{Layout}
+use Rattle.designs.specs.declared.Layout.the-variants.{Dense, Csc}
+use Rattle.designs.specs.declared.Shape.{Shape}
+use Rattle.runs.specs.Epoch.{Point}
+use Rattle.runs.specs.Run.{State}
+use Rattle.runs.specs.Call.{Lent, fitFault, fitted, reportOf, fitCall}
+use Rattle.runs.specs.declared.Settings.{Settings}
+
+-- the second call is given the first one's numbers turned: column j where c j is true, and the targets where t is
+pub record Turning (c : ℕ → Bool) (t : Bool) (s : Shape) (starts rows : List ℕ) (values values' y y' : List Float) (S : Settings) : Type 0 where
+  -- the stored values differ in signs alone, also where no column holds them
+  pub signs : ℕ → Bool
+  pub stored : Signs signs values values'
+  -- "any set of columns": the stored entries of each, in either layout
+  pub columns : (j k : ℕ) → j < s .p → k < design s starts rows values .many j
+      → Turned (c j) (design s starts rows values .value j k) (design s starts rows values' .value j k)
+  -- "all targets"
+  pub targets : Signs (λ (i : ℕ). t) y y'
+  -- "(extrapolation off)": with extrapolation on, no column is turned
+  pub off : S .extrapolate ≡ true → (j : ℕ) → c j ≡ false
+
+-- "weights and fit turn as they must": weight j where its column or the targets turn, but not where both do; the fit as the targets
+pub record TurnedPoint (c : ℕ → Bool) (t : Bool) (q q' : Point) : Type 0 where
+  pub weights : Signs (λ (j : ℕ). unlike (c j) t) (q .weights) (q' .weights)
+  pub fit : Signs (λ (i : ℕ). t) (q .fit) (q' .fit)
+
+-- "same status, counts, violation and working sets": all of these but the sets are the report
+pub record TurnedState (c : ℕ → Bool) (t : Bool) (S : Settings) (s s' : State) : Type 0 where
+  pub point : TurnedPoint c t (s .inner .point) (s' .inner .point)
+  pub report : reportOf S s ≡ reportOf S s'
+  pub sets : s .sets ≡ s' .sets
+
+-- two runs that end in the same way, at states that R relates
+pub data Both {A : Type 0} (R : A → A → Type 0) : Stage A → Stage A → Type 0 where
+  both-going : {a b : A} → R a b → Both R (going a) (going b)
+  both-stopped : {a b : A} → R a b → Both R (stopped a) (stopped b)
+  both-bad : Both R bad bad
+
+-- what demand 3 says of the two calls, each with the same buffers
+pub record SameCall (c : ℕ → Bool) (t : Bool) (s : Shape) (starts rows : List ℕ) (values values' y y' : List Float) (S : Settings) (b : Lent) : Type 0 where
+  -- "same refusal and place", of 1 to 6; and of 7 too, for the answers are the same
+  pub refusal : fitFault s starts rows values y S b ≡ fitFault s starts rows values' y' S b
+  pub answer : fitCall s starts rows values y S b ≡ fitCall s starts rows values' y' S b
+  pub run : fitFault s starts rows values y S b ≡ none → Both (TurnedState c t S) (fitted s starts rows values y S) (fitted s starts rows values' y' S)
+
+-- ---- the plain way to turn: xs with place k negated where s k is true
+unfoldable pub turned : (ℕ → Bool) → List Float → List Float
+turned s [] = []
+turned s (x ∷ xs) = flip (s 0) x ∷ turned (λ (k : ℕ). s (suc k)) xs
+
+-- the signs of stored values, by the columns: a dense design's place k · p + j is in column j, and a CSC design's in the last column that starts
+-- at or before it
+unfoldable pub signsOf : Layout → (ℕ → Bool) → ℕ → List ℕ → ℕ → Bool
+signsOf Dense c p starts i = c (i % p)
+signsOf Csc c p starts i = steps (λ j b. pick (leb (getD starts j 0) i) (c j) b) p false
