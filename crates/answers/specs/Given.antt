@@ -1,13 +1,10 @@
 -- What the contract of the inner function is stated with: the problem by its sizes and the places that hold its arrays.
 use mathlib.Core.List.{List}
 use Prim.Native.Nat.{ℕ, _≤_}
-use lib.Dec.{leb}
-use lib.ListN.{length, take}
+use lib.ListN.{take}
 use lib.Ieee.{Float}
-use Rattle.doubles.specs.Num.{pick}
-use Rattle.doubles.specs.Buffer.{put}
-use Rattle.leaves.specs.Answer.{Outcome, refused, answered}
 use Rattle.files.specs.Call.{Problem}
+use Rattle.leaves.specs.Answer.{answered}
 use Rattle.files.specs.declared.Sizes.{Sizes}
 use Rattle.answers.specs.Printed.{printedFor}
 
@@ -29,8 +26,6 @@ problemIn z targets values starts rows = record {
   rows = take (z .rows) rows;
 }
 
-abbrev pub listedCall : Problem → List ℕ → Outcome ℕ
-listedCall P out = pick (leb 8192 (length out)) (answered (length (printedFor (answered P)))) (refused 3 0)
-
-abbrev pub listedLeft : Problem → List ℕ → List ℕ
-listedLeft P out = pick (leb 8192 (length out)) (put out 0 (printedFor (answered P))) out
+-- the text that is printed for it
+abbrev pub listing : Sizes → List Float → List Float → List ℕ → List ℕ → List ℕ
+listing z targets values starts rows = printedFor (answered (problemIn z targets values starts rows))

@@ -28,9 +28,15 @@ printedFor (answered P) = listed (fitted P) (take (P .shape .p) (left P .weights
 unfoldable pub printed : List ℕ → List ℕ
 printed f = printedFor (parsed f)
 
--- ---- the call has 8,192 lent bytes at least, else 3
+-- ---- a call that writes a text has 8,192 lent bytes at least, else 3
+abbrev pub textCall : List ℕ → List ℕ → Outcome ℕ
+textCall text out = pick (leb 8192 (length out)) (answered (length text)) (refused 3 0)
+
+abbrev pub textLeft : List ℕ → List ℕ → List ℕ
+textLeft text out = pick (leb 8192 (length out)) (put out 0 text) out
+
 unfoldable pub answerCall : List ℕ → List ℕ → Outcome ℕ
-answerCall f out = pick (leb 8192 (length out)) (answered (length (printed f))) (refused 3 0)
+answerCall f out = textCall (printed f) out
 
 unfoldable pub answerLeft : List ℕ → List ℕ → List ℕ
-answerLeft f out = pick (leb 8192 (length out)) (put out 0 (printed f)) out
+answerLeft f out = textLeft (printed f) out

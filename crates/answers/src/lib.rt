@@ -1,7 +1,6 @@
 // What the program prints for a problem file: the file is read, its problem is fitted, and the listing is written.
 ghost use mathlib.Core.Path.{_≡_};
-ghost use Prim.Native.Nat.{_≤_};
-ghost use lib.ListN.{length, take};
+ghost use lib.ListN.{length};
 ghost use Rattle.listings.specs.Call.{writtenOf, Short};
 ghost use Rattle.answers.specs.Printed as def;
 ghost use Rattle.answers.specs.Given as given;
@@ -23,8 +22,8 @@ fn fit_listing(
     out: &mut [u8],
 ) -> Written
     requires { ⌜ given.Inside problem (length (now targets)) (length (now values)) (length (now starts)) (length (now rows)) ⌝ }
-    ensures { λ r. ⌜ (writtenOf r ≡ given.listedCall (given.problemIn problem (now (targets .entry)) (now (values .entry)) (now (starts .entry)) (now (rows .entry))) (now (out .entry)))
-        × (now (out .exit) ≡ given.listedLeft (given.problemIn problem (now (targets .entry)) (now (values .entry)) (now (starts .entry)) (now (rows .entry))) (now (out .entry)))
+    ensures { λ r. ⌜ (writtenOf r ≡ def.textCall (given.listing problem (now (targets .entry)) (now (values .entry)) (now (starts .entry)) (now (rows .entry))) (now (out .entry)))
+        × (now (out .exit) ≡ def.textLeft (given.listing problem (now (targets .entry)) (now (values .entry)) (now (starts .entry)) (now (rows .entry))) (now (out .entry)))
         × Short (writtenOf r) (length (now (out .entry))) ⌝ }
 {
     let mut w = [0.0; 32];

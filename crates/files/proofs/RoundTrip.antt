@@ -20,7 +20,7 @@ use Rattle.designs.specs.declared.Layout.the-variants.{Dense, Csc}
 use Rattle.designs.specs.declared.Shape.{Shape}
 use Rattle.runs.specs.declared.Settings.{Settings}
 use Rattle.files.specs.Bytes.{byte, u16, u32, u64, f64, doubles, indices}
-use Rattle.files.specs.Problem.{Read, nothing, isCsc, shapeOf, penaltyOf, settingsOf, goodHeader, tagAt, lengthAt, whole, known, sizeOf, stored, goodField, good, joined, next, readOn, readAll}
+use Rattle.files.specs.Problem.{Read, nothing, isCsc, shapeOf, penaltyOf, settingsOf, goodHeader, tagAt, lengthAt, whole, known, sizeOf, stored, goodField, goodAt, good, joined, next, readOn, readAll}
 use Rattle.files.specs.Call.{Problem, problem, ended, parsed}
 use Rattle.files.specs.Written.{bytes, field, designCode, penaltyCode, extrapolateCode, alphaOf, secondOf, bytesOf, bytes32, header, sparse, written, Double, Doubles, Word, Words, OwnDoubles, Fitting}
 use Rattle.files.proofs.Laws.Walk.{at-end, one-more}
@@ -195,8 +195,8 @@ module _ (f : List ℕ) (few : length f ≤ 49152) where
 
   -- a field behind the header
   module _ (s : Read) (t : ℕ) (body rest : List ℕ) (R : Reached f (field t body ++ rest) s) where
-    field-good : known f t ≡ true → s .tag ≤ t → length body % sizeOf t ≡ 0 → stored t s (length body / 8) ≡ true → good f s ≡ true
-    unfolding good goodField
+    field-good : known f t ≡ true → s .tag ≤ t → length body % sizeOf t ≡ 0 → stored t (length (s .values)) (length body / 8) ≡ true → good f s ≡ true
+    unfolding goodAt goodField
     field-good k h m q =
         let b = R .begun in
         let tag = here-tag f (s .at) t body rest (R .lies) few in
@@ -224,7 +224,7 @@ module _ (f : List ℕ) (few : length f ≤ 49152) where
         let back = doubles-back f (s .at + 3) xs rest (body-lies f (s .at) t body rest (R .lies) few) g in
         field-next s t body rest R ∙ rw (many, back, ne-eqb t 4 (λ e. omega arith), ne-eqb t 5 (λ e. omega arith))
 
-    doubles-read : 2 ≤ t → t ≤ 3 → s .tag ≤ t → Doubles xs → stored t s (length xs) ≡ true → Reached f rest (with-doubles s t xs)
+    doubles-read : 2 ≤ t → t ≤ 3 → s .tag ≤ t → Doubles xs → stored t (length (s .values)) (length xs) ≡ true → Reached f rest (with-doubles s t xs)
     doubles-read l h k g q =
         let body = flatMap bytesOf xs in
         let long = doubles-long xs in
@@ -270,7 +270,7 @@ header-long a s = refl
 
 module _ (a : Shape) (s : Settings) (rest : List ℕ) (few : length (headed a s rest) ≤ 49152) (n : a .n ≤ 256) (p : a .p ≤ 32) where
   header-passed : good (headed a s rest) nothing ≡ true
-  unfolding good
+  unfolding goodAt
   header-passed = both-hold (here-whole (headed a s rest) 0 1 (header a s) rest (lies-first (headed a s rest)) few) (header-good a s rest n p)
 
   header-read : Reached (headed a s rest) rest begin

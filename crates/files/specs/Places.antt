@@ -1,27 +1,17 @@
--- What the contracts of the inner functions are stated with: the tests of a field by what the code has at hand.
+-- What the contracts of the inner functions are stated with: what the code counts of what was read, and the lent places.
 use mathlib.Core.Path.{_≡_}
 use mathlib.Core.Bool.{Bool, true}
 use mathlib.Core.List.{List}
-use Prim.Native.Nat.{ℕ, _+_, _*_, _/_, _%_, _≤_}
-use lib.Dec.{leb, ltb, eqb}
+use Prim.Native.Nat.{ℕ, _+_, _*_, _/_, _≤_}
+use lib.Dec.{ltb, eqb}
 use lib.ListN.{length}
 use lib.Ieee.{Float}
 use Rattle.doubles.specs.Num.{pick, _and_}
 use Rattle.doubles.specs.Buffer.{put}
 use Rattle.files.specs.Bytes.{doubles, indices}
 use Rattle.files.specs.Call.{Places}
-use Rattle.files.specs.Problem.{Read, tagAt, lengthAt, whole, known, sizeOf, goodHeader}
+use Rattle.files.specs.Problem.{Read, tagAt, lengthAt, goodHeader}
 use Rattle.files.specs.declared.Cursor.{Cursor}
-
-abbrev pub storedBy : ℕ → ℕ → ℕ → Bool
-storedBy t values many = pick (eqb t 3) (leb (values + many) 4096) true
-
-unfoldable pub fieldBy : List ℕ → ℕ → ℕ → ℕ → Bool
-fieldBy f o tag values =
-    known f (tagAt f o) and leb tag (tagAt f o) and eqb (lengthAt f o % sizeOf (tagAt f o)) 0 and storedBy (tagAt f o) values (lengthAt f o / 8)
-
-unfoldable pub goodBy : List ℕ → ℕ → ℕ → ℕ → Bool
-goodBy f o tag values = whole f o and pick (eqb o 0) (goodHeader f) (fieldBy f o tag values)
 
 -- behind the header there is one
 pub record Header (f : List ℕ) : Type 0 where

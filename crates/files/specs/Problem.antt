@@ -3,13 +3,12 @@
 use mathlib.Core.Bool.{Bool, true}
 use mathlib.Core.List.{List, [], _++_}
 use Prim.Native.Nat.{ℕ, zero, suc, _+_, _/_, _%_}
-use lib.Dec.{leb, ltb, eqb}
+use lib.Dec.{leb, eqb}
 use lib.ListN.{length}
 use lib.Ieee.{Float}
 use Rattle.doubles.specs.Num.{pick, _and_}
 use Rattle.leaves.specs.declared.penalties.separable.Penalty.{Penalty}
 use Rattle.leaves.specs.declared.penalties.separable.Penalty.the-variants.{L1, L1PlusL2, MCP}
-use Rattle.designs.specs.declared.Layout.{Layout}
 use Rattle.designs.specs.declared.Layout.the-variants.{Dense, Csc}
 use Rattle.designs.specs.declared.Shape.{Shape}
 use Rattle.runs.specs.declared.Settings.{Settings}
@@ -74,18 +73,20 @@ known f t = leb 2 t and leb t (pick (isCsc f) 5 3)
 abbrev pub sizeOf : ℕ → ℕ
 sizeOf t = pick (leb t 3) 8 4
 
--- "stored ≤ 4,096 (the field that passes it)"
-abbrev pub stored : ℕ → Read → ℕ → Bool
-stored t s many = pick (eqb t 3) (leb (length (s .values) + many) 4096) true
+-- "stored ≤ 4,096 (the field that passes it)", of which `before` were read before
+abbrev pub stored : ℕ → ℕ → ℕ → Bool
+stored t before many = pick (eqb t 3) (leb (before + many) 4096) true
 
--- "Tags never fall"
-unfoldable pub goodField : List ℕ → Read → Bool
-goodField f s =
-    known f (tagAt f (s .at)) and leb (s .tag) (tagAt f (s .at)) and eqb (lengthAt f (s .at) % sizeOf (tagAt f (s .at))) 0
-    and stored (tagAt f (s .at)) s (lengthAt f (s .at) / 8)
+-- "Tags never fall": the field at place o, behind one with tag `last`
+unfoldable pub goodField : List ℕ → ℕ → ℕ → ℕ → Bool
+goodField f o last before =
+    known f (tagAt f o) and leb last (tagAt f o) and eqb (lengthAt f o % sizeOf (tagAt f o)) 0 and stored (tagAt f o) before (lengthAt f o / 8)
 
-unfoldable pub good : List ℕ → Read → Bool
-good f s = whole f (s .at) and pick (eqb (s .at) 0) (goodHeader f) (goodField f s)
+unfoldable pub goodAt : List ℕ → ℕ → ℕ → ℕ → Bool
+goodAt f o last before = whole f o and pick (eqb o 0) (goodHeader f) (goodField f o last before)
+
+abbrev pub good : List ℕ → Read → Bool
+good f s = goodAt f (s .at) (s .tag) (length (s .values))
 
 -- "repeats join"
 abbrev pub joined : {A : Type 0} → ℕ → ℕ → List A → List A → List A

@@ -1,7 +1,7 @@
 // Problem files on a byte slice: fields of one-byte tag, two-byte length and body, all little-endian.
 ghost use mathlib.Core.Path.{_≡_};
-ghost use mathlib.Core.Bool.{Bool, true};
-ghost use Prim.Native.Nat.{ℕ, _+_, _≤_};
+ghost use mathlib.Core.Bool.{true};
+ghost use Prim.Native.Nat.{_+_, _≤_};
 ghost use lib.ListN.{length};
 ghost use Rattle.leaves.specs.Answer.{refused as refused'};
 ghost use Rattle.files.specs.Problem as def;
@@ -163,7 +163,7 @@ fn size_of(tag: usize) -> usize
 // Whether `many` more stored values stay within the program's size.
 fn is_stored(tag: usize, values: usize, many: usize) -> bool
     requires { ⌜ (values ≤ 4096) × (many ≤ 8192) ⌝ }
-    ensures { λ r. ⌜ r ≡ here.storedBy tag values many ⌝ }
+    ensures { λ r. ⌜ r ≡ def.stored tag values many ⌝ }
 {
     if tag == 3 {
         return values + many <= 4096;
@@ -174,7 +174,7 @@ fn is_stored(tag: usize, values: usize, many: usize) -> bool
 // Whether a field behind the header, which is not cut, is one that may come next.
 fn is_field(file: &[u8], c: Cursor) -> bool
     requires { ⌜ (def.whole (now file) (c .at) ≡ true) × (12 ≤ length (now file)) × (length (now file) ≤ 49152) × (c .values ≤ 4096) ⌝ }
-    ensures { λ r. ⌜ r ≡ here.fieldBy (now (file .entry)) (c .at) (c .tag) (c .values) ⌝ }
+    ensures { λ r. ⌜ r ≡ def.goodField (now (file .entry)) (c .at) (c .tag) (c .values) ⌝ }
 {
     let at = c.at;
     let tag = file[at] as usize;
@@ -193,7 +193,7 @@ fn is_field(file: &[u8], c: Cursor) -> bool
 
 fn is_good(file: &[u8], c: Cursor) -> bool
     requires { ⌜ (c .at ≤ length (now file)) × (length (now file) ≤ 49152) × (c .values ≤ 4096) × here.Headed (now file) (c .at) ⌝ }
-    ensures { λ r. ⌜ r ≡ here.goodBy (now (file .entry)) (c .at) (c .tag) (c .values) ⌝ }
+    ensures { λ r. ⌜ r ≡ def.goodAt (now (file .entry)) (c .at) (c .tag) (c .values) ⌝ }
 {
     if is_whole(file, c.at) {} else {
         return false;

@@ -1,5 +1,5 @@
 -- Laws on the loops' definitions.
-pub mod Settings
+pub mod Ready
 pub mod Epochs
 pub mod Reached
 pub mod Turns

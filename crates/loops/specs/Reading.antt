@@ -1,11 +1,11 @@
 -- What the answers of the loops stand for, together with the buffers, and what the loops ask for.
 use mathlib.Core.Path.{_≡_}
-use mathlib.Core.Bool.{Bool, true}
+use mathlib.Core.Bool.{true}
 use mathlib.Core.List.{List, []}
 use Prim.Native.Nat.{ℕ, suc, _+_, _*_, _≤_, _<_}
 use lib.ListN.{length, getD, take, drop}
-use lib.Ieee.{Float, eq}
-use Rattle.doubles.specs.Num.{_⊘_, #0, #1, finite, pick, _and_, _or_}
+use lib.Ieee.{Float}
+use Rattle.doubles.specs.Num.{#0, pick}
 use Rattle.doubles.specs.Steps.{tab, Stage, going, stopped, bad}
 use Rattle.designs.specs.Sound.{Whole}
 use Rattle.designs.specs.declared.Shape.{Shape}
@@ -73,10 +73,6 @@ setsOf bad = []
 -- the buffers and the answer are that stage; its working sets stand in no buffer
 abbrev pub shows : Shape → Settings → OuterStep → List Float → List Float → List Float → Stage State → Type 0
 shows s S r w fit scratch d = outerStage r w fit (keptHere s S scratch) (setsOf d) ≡ d
-
--- 7 "for all columns first": a constant, its inverse if it is not zero, and an entry of X'y
-unfoldable pub usableAt : Float → Float → Bool
-usableAt constant xty = finite constant and (eq constant #0 or finite (#1 ⊘ constant)) and finite xty
 
 -- ---- what the loops ask for
 -- a design, settings and buffers that passed the tests, each buffer of its room

@@ -1,7 +1,6 @@
 // The loops of a run, over a design, settings and buffers already tested: the epochs of a working set, and the outer iterations. Of the scratch,
 // places 0 to 2p hold the constants and X'y, 2p to 3p the violations, and the rest is the extrapolation's.
 ghost use mathlib.Core.Path.{_≡_};
-ghost use mathlib.Core.Bool.{Bool};
 ghost use mathlib.Core.List.{List};
 ghost use Prim.Native.Nat.{ℕ, _+_, _≤_, _<_};
 ghost use lib.Dec.{eqb};
@@ -453,7 +452,7 @@ fn run(
 
 // Whether a constant, its inverse if it is not zero, and an entry of X'y are finite.
 fn is_usable_at(constant: f64, xty: f64) -> bool
-    ensures { λ r. ⌜ r ≡ here.usableAt constant xty ⌝ }
+    ensures { λ r. ⌜ r ≡ call.usable constant xty ⌝ }
 {
     if is_finite(constant) {} else {
         return false;
@@ -470,7 +469,7 @@ fn is_usable_at(constant: f64, xty: f64) -> bool
 // Whether all columns are usable.
 fn is_usable(prepared: &[f64], p: usize) -> bool
     requires { ⌜ (p ≤ 8192) × (length (now prepared) ≡ p + p) ⌝ }
-    ensures { λ r. ⌜ r ≡ all (λ j. here.usableAt (num.at (now (prepared .entry)) j) (num.at (now (prepared .entry)) (p + j))) p ⌝ }
+    ensures { λ r. ⌜ r ≡ all (λ j. call.usable (num.at (now (prepared .entry)) j) (num.at (now (prepared .entry)) (p + j))) p ⌝ }
 {
     let mut j = 0;
     while j < p {

@@ -54,11 +54,15 @@ fitFault s starts rows values y S b =
     (admitted s starts rows values y (eqb (length y) (s .n)) (roomy s S b)))
 
 -- ---- 7 "for all columns first": "a Lipschitz constant, the inverse of a nonzero one, X'y entry"
-unfoldable pub usable : Task → ℕ → Bool
-usable T j = finite (constant T j) and (eq (constant T j) #0 or finite (#1 ⊘ constant T j)) and finite (at (T .prepared) (T .p + j))
+unfoldable pub usable : Float → Float → Bool
+usable constant xty = finite constant and (eq constant #0 or finite (#1 ⊘ constant)) and finite xty
+
+-- of column j
+abbrev pub usableAt : Task → ℕ → Bool
+usableAt T j = usable (constant T j) (at (T .prepared) (T .p + j))
 
 unfoldable pub solved : Task → List Float → Settings → Stage State
-solved T y S = pick (all (usable T) (T .p)) (run T y S) bad
+solved T y S = pick (all (usableAt T) (T .p)) (run T y S) bad
 
 -- a preparation, and a solve that uses it
 unfoldable pub fitted : Shape → List ℕ → List ℕ → List Float → List Float → Settings → Stage State

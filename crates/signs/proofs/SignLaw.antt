@@ -4,55 +4,38 @@ use mathlib.Core.Path.{_≡_, refl, ap}
 use mathlib.Core.Bool.{Bool, true, false}
 use mathlib.Core.List.{List}
 use Prim.Native.Nat.{ℕ, _≤_, _<_}
-use native.Mathlib.Omega.{arith}
-use lib.Dec.{leb, eqb}
+use lib.Dec.{eqb}
 use lib.ListN.{length}
 use lib.Ieee.{Float}
 use Rattle.doubles.specs.Num.{_and_}
 use Rattle.doubles.specs.Steps.{Stage}
 use Rattle.doubles.specs.Sign.{Turned, Signs}
-use Rattle.doubles.proofs.Laws.Choice.{and-both}
 use Rattle.leaves.specs.Answer.{answered}
 use Rattle.leaves.specs.Odd.{Odd}
-use Rattle.leaves.specs.Penalty.{alphaLegal, legal}
 use Rattle.leaves.proofs.Odd.{odd}
 use Rattle.designs.specs.Design.{Design, dense, csc, laid, design, prepared}
-use Rattle.designs.specs.Checks.{Fault, none, fault, unless, sizes, admitted}
+use Rattle.designs.specs.Checks.{Fault, none, fault, sizes, admitted}
 use Rattle.designs.specs.declared.Layout.{Layout}
 use Rattle.designs.specs.declared.Layout.the-variants.{Dense, Csc}
 use Rattle.designs.specs.declared.Shape.{Shape}
 use Rattle.designs.proofs.Laws.Layouts.{samples, features}
-use Rattle.designs.proofs.Laws.Passed.{Admitted, admits}
+use Rattle.designs.proofs.Laws.Passed.{Admitted, spared, admits}
 use Rattle.runs.specs.Run.{State}
-use Rattle.runs.specs.Call.{depthLegal, settingsLegal, Lent, roomy, fitFault, solved, fitted, ended, answer, fitCall}
+use Rattle.runs.specs.Call.{settingsLegal, Lent, roomy, fitFault, solved, fitted, ended, answer, fitCall}
 use Rattle.runs.specs.declared.Settings.{Settings}
+use Rattle.runs.proofs.Laws.Settings.{penalty-legal}
 use Rattle.signs.specs.Turning.{Turning, TurnedState, Both, both-going, both-stopped, both-bad, SameCall}
 use Rattle.signs.proofs.Laws.Pairs.{with-values}
 use Rattle.signs.proofs.Laws.Preparation.{solved-turned}
 use Rattle.signs.proofs.Laws.Faults.{fault-same}
 
 -- ---- what a call that is not refused says of its settings and its sizes
-second-passed : (a b : Bool) (first second : ℕ) (f : Fault) → unless a first (unless b second f) ≡ none → (b ≡ true) × (f ≡ none)
-second-passed true true first second f e = (refl, e)
-second-passed true false first second f e = absurd (let z : _≡_ {A = ℕ} 0 1 = cc in omega arith)
-second-passed false b first second f e = absurd (let z : _≡_ {A = ℕ} 0 1 = cc in omega arith)
-
-penalty-legal : (S : Settings) → settingsLegal S ≡ true → legal (S .penalty) ≡ true
-unfolding settingsLegal
-penalty-legal S h =
-    let a = and-both (leb (S .iterations) 1000) _ h .1 in
-    let b = and-both (leb (S .epochs) 100000) _ a .1 in
-    let c = and-both (leb 1 (S .start)) _ b .1 in
-    let d = and-both (leb (S .start) 8192) _ c .1 in
-    let e = and-both (depthLegal S) _ d .1 in
-    and-both (alphaLegal (S .tolerance)) (legal (S .penalty)) e .1
-
 pub passed : (s : Shape) (starts rows : List ℕ) (values y : List Float) (S : Settings) (b : Lent) → fitFault s starts rows values y S b ≡ none
     → (settingsLegal S ≡ true) × Admitted s starts rows values (eqb (length y) (s .n)) (roomy s S b)
 unfolding fitFault
 passed s starts rows values y S b e =
     let rest = admitted s starts rows values y (eqb (length y) (s .n)) (roomy s S b) in
-    let r = second-passed (sizes s starts rows values and eqb (length y) (s .n)) (settingsLegal S) 1 2 rest e in
+    let r = spared (settingsLegal S) 2 rest (spared (sizes s starts rows values and eqb (length y) (s .n)) 1 _ e .1) in
     (r .0, admits s starts rows values y (eqb (length y) (s .n)) (roomy s S b) (r .1))
 
 -- ---- two designs of one shape differ in their values alone

@@ -19,8 +19,8 @@ use Rattle.files.specs.Places.{places}
 use Rattle.files.specs.declared.Sizes.{Sizes}
 use Rattle.listings.specs.Call.{writeCall, writeLeft}
 use Rattle.listings.proofs.Laws.Calls.{write-fits}
-use Rattle.answers.specs.Printed.{fitted, left, printed, answerCall, answerLeft}
-use Rattle.answers.specs.Given.{Inside, problemIn, listedCall, listedLeft}
+use Rattle.answers.specs.Printed.{fitted, left, printedFor, printed, textCall, textLeft, answerCall, answerLeft}
+use Rattle.answers.specs.Given.{Inside, problemIn}
 
 take-few : (p m : ℕ) (l : List Float) → p ≤ length l → p ≤ m → length (take p l) ≤ m
 take-few p m l h k = le-trans (le-of-eq (length-take-le p l h)) k
@@ -30,7 +30,7 @@ pub fit-listed : (P : Problem) (o : Outcome Report) (b : Lent) (out out' : List 
     → P .shape .p ≤ length (b .weights) → P .shape .p ≤ 32 → P .shape .n ≤ length (b .fit) → P .shape .n ≤ 256
     → r ≡ writeCall o (take (P .shape .p) (b .weights)) (take (P .shape .n) (b .fit)) out
     → out' ≡ writeLeft o (take (P .shape .p) (b .weights)) (take (P .shape .n) (b .fit)) out
-    → (r ≡ listedCall P out) × (out' ≡ listedLeft P out)
+    → (r ≡ textCall (printedFor (answered P)) out) × (out' ≡ textLeft (printedFor (answered P)) out)
 fit-listed P o b out out' r eo eb hp kp hn kn er el =
     let w = write-fits o (take (P .shape .p) (b .weights)) (take (P .shape .n) (b .fit)) out (take-few _ 32 _ hp kp) (take-few _ 256 _ hn kn) in
     (er ∙ w .0 ∙ rw (eo, eb), el ∙ w .1 ∙ rw (eo, eb))
@@ -75,8 +75,8 @@ refusal-printed f number place w e out out' r ep hw he er el =
     let q = write-fits (refused number place) w e out hw he in
     (er ∙ q .0 ∙ rw ep, el ∙ q .1 ∙ rw ep)
 
-pub fit-printed : (f : List ℕ) (P : Problem) (out out' : List ℕ) (r : Outcome ℕ) → parsed f ≡ answered P → r ≡ listedCall P out → out' ≡ listedLeft P out
-    → (r ≡ answerCall f out) × (out' ≡ answerLeft f out)
+pub fit-printed : (f : List ℕ) (P : Problem) (out out' : List ℕ) (r : Outcome ℕ) → parsed f ≡ answered P → r ≡ textCall (printedFor (answered P)) out
+    → out' ≡ textLeft (printedFor (answered P)) out → (r ≡ answerCall f out) × (out' ≡ answerLeft f out)
 unfolding answerCall answerLeft printed
 fit-printed f P out out' r ep er el = (er ∙ rw ep, el ∙ rw ep)
 

@@ -161,7 +161,7 @@ untold : (number : ℕ) (f : Found) (g : Fault) → told number f g ≡ none →
 untold number Nowhere g e = (refl, e)
 untold number (At k) g e = absurd (let z : _≡_ {A = ℕ} 0 1 = cc in omega arith)
 
-spared : (b : Bool) (number : ℕ) (g : Fault) → unless b number g ≡ none → (b ≡ true) × (g ≡ none)
+pub spared : (b : Bool) (number : ℕ) (g : Fault) → unless b number g ≡ none → (b ≡ true) × (g ≡ none)
 spared true number g e = (refl, e)
 spared false number g e = absurd (let z : _≡_ {A = ℕ} 0 1 = cc in omega arith)
 

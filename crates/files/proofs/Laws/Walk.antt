@@ -15,19 +15,19 @@ use Rattle.doubles.proofs.Laws.Choice.{and-both}
 use Rattle.doubles.proofs.Laws.Steps.{length-tab}
 use Rattle.doubles.proofs.Laws.Buffer.{length-put, put-behind}
 use Rattle.files.specs.Bytes.{u32, f64, doubles, indices}
-use Rattle.files.specs.Problem.{Read, nothing, tagAt, lengthAt, whole, stored, goodHeader, goodField, good, joined, next, readOn, readAll}
-use Rattle.files.specs.Places.{fieldBy, goodBy, Header, Headed, Counts, grownBy, advanced, Space, Room, storedIn, indexedIn, keptIf}
+use Rattle.files.specs.Problem.{Read, nothing, tagAt, lengthAt, whole, stored, goodHeader, goodField, goodAt, good, joined, next, readOn, readAll}
+use Rattle.files.specs.Places.{Header, Headed, Counts, grownBy, advanced, Space, Room, storedIn, indexedIn, keptIf}
 use Rattle.files.specs.declared.Cursor.{Cursor}
 use Rattle.files.proofs.Laws.Fields.{head-inside, body-inside, header-long}
 
 -- ---- a good field
 module _ (f : List ℕ) (s : Read) (h : good f s ≡ true) where
   pub good-whole : whole f (s .at) ≡ true
-  unfolding good
+  unfolding goodAt
   good-whole = and-both _ _ h .0
 
-  choice : pick (eqb (s .at) 0) (goodHeader f) (goodField f s) ≡ true
-  unfolding good
+  choice : pick (eqb (s .at) 0) (goodHeader f) (goodField f (s .at) (s .tag) (length (s .values))) ≡ true
+  unfolding goodAt
   choice = and-both _ _ h .1
 
   good-first : s .at ≡ 0 → goodHeader f ≡ true
@@ -44,13 +44,13 @@ module _ (f : List ℕ) (s : Read) (h : good f s ≡ true) where
   unfolding goodHeader
   first-tag e = rw e (eqb-true _ 1 (and-both _ _ (good-first e) .0))
 
-  later-stored : (s .at ≡ 0 → ⊥) → stored (tagAt f (s .at)) s (lengthAt f (s .at) / 8) ≡ true
+  later-stored : (s .at ≡ 0 → ⊥) → stored (tagAt f (s .at)) (length (s .values)) (lengthAt f (s .at) / 8) ≡ true
   unfolding goodField
   later-stored n =
-      let g : goodField f s ≡ true = go (eqb (s .at) 0) refl choice in
+      let g : goodField f (s .at) (s .tag) (length (s .values)) ≡ true = go (eqb (s .at) 0) refl choice in
       and-both _ _ (and-both _ _ (and-both _ _ g .1) .1) .1
     where
-      go : (b : Bool) → eqb (s .at) 0 ≡ b → pick b (goodHeader f) (goodField f s) ≡ true → goodField f s ≡ true
+      go : (b : Bool) → eqb (s .at) 0 ≡ b → pick b (goodHeader f) (goodField f (s .at) (s .tag) (length (s .values))) ≡ true → goodField f (s .at) (s .tag) (length (s .values)) ≡ true
       go true q c = absurd (n (eqb-true (s .at) 0 q))
       go false q c = c
 
@@ -65,7 +65,7 @@ module _ (f : List ℕ) (s : Read) (h : good f s ≡ true) where
 -- ---- enough turns are enough
 module _ (f : List ℕ) where
   pub at-end : (s : Read) → length f ≤ s .at → good f s ≡ false
-  unfolding good whole _and_
+  unfolding goodAt whole _and_
   at-end s h = rw (lt-leb (s .at + 3) (length f) (omega arith))
 
   next-at : (s : Read) → s .at + 3 ≤ next f s .at
@@ -99,8 +99,7 @@ fours true n m a h = omega arith
 fours false n m a h = omega arith
 
 module _ (f : List ℕ) (c : Cursor) (s : Read) (C : Counts f c s) where
-  pub good-by : (b : Bool) → b ≡ goodBy f (c .at) (c .tag) (c .values) → b ≡ good f s
-  unfolding goodBy good fieldBy goodField
+  pub good-by : (b : Bool) → b ≡ goodAt f (c .at) (c .tag) (c .values) → b ≡ good f s
   good-by b e = e ∙ rw (C .at, C .tag, C .values)
 
   module _ (g : good f s ≡ true) where
@@ -199,7 +198,7 @@ module _ (f : List ℕ) (keep : Bool) (t₀ v₀ : List Float) (s₀ r₀ : List
     headed = λ n. absurd (n refl);
   }
 
-  pub walked-none : (b : Bool) → b ≡ goodBy f 0 0 0 → Walked f keep t₀ v₀ s₀ r₀ t₀ v₀ s₀ r₀ (record { at = 0; tag = 0; targets = 0; values = 0; starts = 0; rows = 0 }) b
+  pub walked-none : (b : Bool) → b ≡ goodAt f 0 0 0 → Walked f keep t₀ v₀ s₀ r₀ t₀ v₀ s₀ r₀ (record { at = 0; tag = 0; targets = 0; values = 0; starts = 0; rows = 0 }) b
   unfolding readAll
   walked-none b e = record {
     so-far = nothing;
@@ -270,7 +269,7 @@ module _ (f : List ℕ) (keep : Bool) (t₀ v₀ : List Float) (s₀ r₀ : List
       pub walked-more : (t' v' : List Float) (s' r' : List ℕ) (d : Cursor) (b : Bool)
           → t' ≡ storedIn keep f (c .at) 2 t (c .targets) → v' ≡ storedIn keep f (c .at) 3 v (c .values)
           → s' ≡ indexedIn keep f (c .at) 4 s (c .starts) → r' ≡ indexedIn keep f (c .at) 5 r (c .rows)
-          → d ≡ advanced f c → b ≡ goodBy f (d .at) (d .tag) (d .values)
+          → d ≡ advanced f c → b ≡ goodAt f (d .at) (d .tag) (d .values)
           → Walked f keep t₀ v₀ s₀ r₀ t' v' s' r' d b
       unfolding next
       walked-more t' v' s' r' d b et ev es er ed eb =

@@ -2,7 +2,7 @@
 use native.Mathlib.Omega.{arith}
 use borrow.Author.Tests.{eq-eqb, ne-eqb, le-leb, lt-leb}
 use Rattle.doubles.specs.Num.{_and_}
-use Rattle.files.specs.Places.{fieldBy}
+use Rattle.files.specs.Problem.{goodField}
 use Rattle.files.proofs.Laws.Fields.{head-inside, size-positive}
 use denote.Ref.{now}
 use Rattle.files.specs.Bytes.{byte}
@@ -26,11 +26,11 @@ is-known-requires : tie.Need-is-known-requires
 is-known-requires c κs = search needs
 
 returns : tie.Need-returns
-unfolding fieldBy _and_
+unfolding goodField _and_
 returns c = rw (← c .before .is-known .ensures, c .if1 .left)
 
 returns-2 : tie.Need-returns-2
-unfolding fieldBy _and_
+unfolding goodField _and_
 returns-2 c = rw (← c .before .before .before .is-known .ensures, c .before .before .if1 .taken, lt-leb _ _ (c .if2 .taken))
 
 size-of-requires : tie.Need-size-of-requires
@@ -40,14 +40,14 @@ rem-if3 : tie.Need-rem-if3
 rem-if3 c = size-positive (byte (now (c .before .before .before .before .before .before .before .before .args .file)) (c .before .before .before .before .before .before .before .before .args .c .at)) _ (c .size-of .ensures)
 
 returns-3 : tie.Need-returns-3
-unfolding fieldBy _and_
+unfolding goodField _and_
 returns-3 c = rw (← c .before .before .before .before .before .is-known .ensures, c .before .before .before .before .if1 .taken, le-leb _ _ (c .before .before .if2 .left), ← c .before .before .before .before .before .before .u16-at .ensures .0, ← c .before .size-of .ensures, ne-eqb _ _ (c .if3 .taken))
 
 is-stored-requires : tie.Need-is-stored-requires
 is-stored-requires c κs = search needs
 
 returns-4 : tie.Need-returns-4
-unfolding fieldBy _and_
+unfolding goodField _and_
 returns-4 c = rw (← c .before .before .before .before .before .before .is-known .ensures, c .before .before .before .before .before .if1 .taken, le-leb _ _ (c .before .before .before .if2 .left), ← c .before .before .before .before .before .before .before .u16-at .ensures .0, ← c .before .before .size-of .ensures, eq-eqb _ _ (c .before .if3 .left)) (c .is-stored .ensures)
 
 pub is-field-spec : {M : Type 1} → statement M

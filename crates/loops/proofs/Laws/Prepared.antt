@@ -18,8 +18,8 @@ use Rattle.runs.specs.Call.{usable, solved, fitted}
 use Rattle.runs.specs.declared.Settings.{Settings}
 use Rattle.anderson.specs.Places.{keptIn}
 use Rattle.anderson.proofs.Laws.Scratch.{old-behind, room-split}
-use Rattle.loops.specs.Reading.{taskOf, keptHere, nothingKept, usableAt, Ready}
-use Rattle.loops.proofs.Laws.Settings.{room-twice, room-on}
+use Rattle.loops.specs.Reading.{taskOf, keptHere, nothingKept, Ready}
+use Rattle.loops.proofs.Laws.Ready.{room-twice, room-on}
 use Rattle.doubles.proofs.Laws.Parts.{same-drop, same-take}
 
 -- z is the scratch cleared, q what came back in its first 2p places
@@ -75,9 +75,9 @@ module _ {s : Shape} {starts rows : List ℕ} {values y : List Float} {S : Setti
 
     -- ---- whether all columns are usable
     module _ (eq : q ≡ prepared (design s starts rows values) y) (r : Bool)
-        (er : r ≡ all (λ j. usableAt (at (take (s .p + s .p) (q ++ drop (s .p + s .p) z)) j) (at (take (s .p + s .p) (q ++ drop (s .p + s .p) z)) (s .p + j))) (s .p)) where
+        (er : r ≡ all (λ j. usable (at (take (s .p + s .p) (q ++ drop (s .p + s .p) z)) j) (at (take (s .p + s .p) (q ++ drop (s .p + s .p) z)) (s .p + j))) (s .p)) where
       by-usable : pick r (run (taskOf s starts rows values S (q ++ drop (s .p + s .p) z)) y S) bad ≡ fitted s starts rows values y S
-      unfolding fitted solved usable usableAt
+      unfolding fitted solved
       by-usable = rw (er, prepared-first, eq)
 
       pub solved-bad : r ≡ false → bad ≡ fitted s starts rows values y S

@@ -1,5 +1,5 @@
 -- `accelerate`: with extrapolation on, what the step left; else the point stays. Assumes nothing.
-use Rattle.loops.proofs.Laws.Settings.{step-ready}
+use Rattle.loops.proofs.Laws.Ready.{step-ready}
 use Rattle.loops.proofs.Laws.Epochs.{taken-few, accelerated-on, accelerated-off, twice-of-thrice}
 use mathlib.Core.Path.{refl}
 use native.Mathlib.Omega.{arith}

@@ -6,12 +6,12 @@ use Rattle.doubles.specs.Num.{at}
 use Rattle.doubles.specs.Steps.{all}
 use Rattle.doubles.proofs.Laws.Steps.{steps-none, steps-all, all-more, all-broken}
 use borrow.Author.Needs.{needs}
-use Rattle.loops.specs.Reading.{usableAt}
+use Rattle.runs.specs.Call.{usable}
 use Rattle.loops.proofs.is_usable.Statement.{statement}
 use Rattle.loops.proofs.is_usable.Tie as tie
 
 abbrev Inv-loop : tie.InvT-loop
-Inv-loop prepared p j₀ j = (j ≤ p) × (true ≡ all (λ k. usableAt (at prepared k) (at prepared (p + k))) j)
+Inv-loop prepared p j₀ j = (j ≤ p) × (true ≡ all (λ k. usable (at prepared k) (at prepared (p + k))) j)
 
 abbrev μ-loop : tie.MeasureT-loop
 μ-loop prepared p j₀ j = p - j

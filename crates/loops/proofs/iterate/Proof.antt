@@ -3,7 +3,7 @@ use mathlib.Core.Path.{refl, sym, ap, _∙_}
 use native.Mathlib.Omega.{arith}
 use native.Mathlib.Nat.{le-of-eq, le-trans}
 use lib.Seq.{length-take-le}
-use Rattle.loops.proofs.Laws.Settings.{room-for}
+use Rattle.loops.proofs.Laws.Ready.{room-for}
 use Rattle.loops.proofs.Laws.Turns.{start-most, set-built, set-most, set-features, part-violations, set-chosen, shown-going, shown-stopped, shown-bad, grown-by, grown-none}
 use Rattle.doubles.proofs.Laws.Parts.{part-long}
 use Rattle.loops.specs.Reading.{countsOf}

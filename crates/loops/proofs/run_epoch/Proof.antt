@@ -1,5 +1,5 @@
 -- `run_epoch`: the visits, the extrapolation, and the check where it is due. Assumes nothing.
-use Rattle.loops.proofs.Laws.Settings.{room-twice, ready-still}
+use Rattle.loops.proofs.Laws.Ready.{room-twice, ready-still}
 use Rattle.loops.proofs.Laws.Epochs.{epoch-bad, epoch-unchecked, epoch-checked, counts-checked}
 use mathlib.Core.Path.{refl, sym}
 use lib.Seq.{length-take-le}

@@ -2,7 +2,8 @@
 use Prim.Native.Nat.{_≤_, _-_}
 use native.Mathlib.Omega.{arith}
 use borrow.Author.Needs.{needs}
-use Rattle.loops.proofs.Laws.Settings.{few-epochs, ready-still}
+use Rattle.runs.proofs.Laws.Settings.{few-epochs}
+use Rattle.loops.proofs.Laws.Ready.{ready-still}
 use Rattle.loops.proofs.Laws.Reached.{Reached, reached-none, reached-more, reached-stopped, reached-bad, reached-all}
 use mathlib.Core.Path.{_∙_}
 use Rattle.loops.proofs.run_epochs.Statement.{statement}

@@ -25,7 +25,7 @@ use Rattle.leaves.specs.Odd.{Odd}
 use Rattle.leaves.specs.declared.penalties.separable.Penalty.{Penalty}
 use Rattle.designs.specs.Design.{Design, dot, squares, lipschitz, dots, prepared}
 use Rattle.runs.specs.Epoch.{Task, constant}
-use Rattle.runs.specs.Call.{usable, solved}
+use Rattle.runs.specs.Call.{usable, usableAt, solved}
 use Rattle.runs.specs.declared.Settings.{Settings}
 use Rattle.signs.specs.Turning.{TurnedState, Both, both-bad}
 use Rattle.signs.proofs.Laws.Exact.{related, all-same}
@@ -91,12 +91,12 @@ module _ (c : ℕ → Bool) (t : Bool) (X : Design) (other : ℕ → ℕ → Flo
   products-turned j l =
       rw (product-at X y j l, product-at (with-values X other) y' j l) (dot-turned X other j (c j) t (λ k m. entries j k l m) sy)
 
-  usable-same : (j : ℕ) → j < X .p → usable first j ≡ usable second j
+  usable-same : (j : ℕ) → j < X .p → usableAt first j ≡ usableAt second j
   unfolding usable
   usable-same j l = rw (constants-same j l, finite-turned (products-turned j l))
 
   module _ (odd : Odd penalty) (some : 1 ≤ X .n) (few : X .n ≤ 65536) where
-    inverse-of : (j : ℕ) → j < X .p → usable first j ≡ true → eq (at (prepared X y) j) #0 ≡ false
+    inverse-of : (j : ℕ) → j < X .p → usableAt first j ≡ true → eq (at (prepared X y) j) #0 ≡ false
         → (finite (#1 ⊘ at (prepared X y) j) ≡ true) × (lt (#1 ⊘ at (prepared X y) j) #0 ≡ false)
     unfolding usable
     inverse-of j l u z =
@@ -105,7 +105,7 @@ module _ (c : ℕ → Bool) (t : Bool) (X : Design) (other : ℕ → ℕ → Flo
         let n : lt (at (prepared X y) j) #0 ≡ false = rw (constant-at X y j l) (lipschitz-not-below X j some few) in
         (or-else _ _ b z, div-not-below #1 (at (prepared X y) j) one-not-below n z)
 
-    pair : all (usable first) (X .p) ≡ true → Pair
+    pair : all (usableAt first) (X .p) ≡ true → Pair
     pair u = record {
       turns = c;
       target = t;
@@ -119,7 +119,7 @@ module _ (c : ℕ → Bool) (t : Bool) (X : Design) (other : ℕ → ℕ → Flo
       entries = entries;
       constants = constants-same;
       products = products-turned;
-      inverse = λ j l z. inverse-of j l (all-each (usable first) (X .p) u j l) z;
+      inverse = λ j l z. inverse-of j l (all-each (usableAt first) (X .p) u j l) z;
       odd = odd;
     }
 

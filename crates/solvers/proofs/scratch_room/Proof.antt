@@ -1,6 +1,6 @@
 -- `scratch_room`: by whether extrapolation is on. Assumes nothing.
 use native.Mathlib.Omega.{arith}
-use Rattle.loops.proofs.Laws.Settings.{shallow}
+use Rattle.runs.proofs.Laws.Settings.{shallow}
 use Rattle.solvers.proofs.Laws.Calls.{room-small}
 use Rattle.runs.specs.Call.{scratchRoom}
 use borrow.Author.Needs.{needs}

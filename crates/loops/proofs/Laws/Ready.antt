@@ -1,45 +1,20 @@
--- What settings say that passed their tests, and what readiness is worth. Assumes nothing.
+-- What readiness is worth: the room of the scratch, and the steps that may be taken. Assumes nothing.
 use mathlib.Core.Path.{_≡_, sym, _∙_}
 use mathlib.Core.Bool.{Bool, true, false}
 use Prim.Native.Nat.{ℕ, _+_, _*_, _≤_}
 use native.Mathlib.Nat.{le-of-eq, le-trans}
 use native.Mathlib.Omega.{arith}
 use mathlib.Core.List.{List}
-use lib.Dec.{leb}
 use lib.ListN.{length}
 use lib.Ieee.{Float}
-use borrow.Author.Tests.{leb-true}
-use Rattle.doubles.specs.Num.{pick, _and_}
-use Rattle.doubles.proofs.Laws.Choice.{and-both}
-use Rattle.leaves.specs.Penalty.{alphaLegal, legal}
+use Rattle.doubles.specs.Num.{pick}
 use Rattle.designs.specs.declared.Shape.{Shape}
-use Rattle.runs.specs.Call.{depthLegal, settingsLegal, scratchRoom}
+use Rattle.runs.specs.Call.{scratchRoom}
 use Rattle.runs.specs.declared.Settings.{Settings}
+use Rattle.runs.proofs.Laws.Settings.{shallow}
 use Rattle.anderson.specs.Places as places
 use Rattle.anderson.proofs.Laws.Scratch.{old-behind, room-split}
 use Rattle.loops.specs.Reading.{Ready, Features}
-
-module _ (S : Settings) (h : settingsLegal S ≡ true) where
-  rest₁ : (leb (S .epochs) 100000 and leb 1 (S .start) and leb (S .start) 8192 and depthLegal S and alphaLegal (S .tolerance) and legal (S .penalty)) ≡ true
-  unfolding settingsLegal
-  rest₁ = and-both (leb (S .iterations) 1000) _ h .1
-
-  rest₂ : (leb 1 (S .start) and leb (S .start) 8192 and depthLegal S and alphaLegal (S .tolerance) and legal (S .penalty)) ≡ true
-  rest₂ = and-both (leb (S .epochs) 100000) _ rest₁ .1
-
-  pub few-iterations : S .iterations ≤ 1000
-  unfolding settingsLegal
-  few-iterations = leb-true (S .iterations) 1000 (and-both (leb (S .iterations) 1000) _ h .0)
-
-  pub few-epochs : S .epochs ≤ 100000
-  few-epochs = leb-true (S .epochs) 100000 (and-both (leb (S .epochs) 100000) _ rest₁ .0)
-
-  depth-legal : depthLegal S ≡ true
-  depth-legal = and-both (depthLegal S) _ (and-both (leb (S .start) 8192) _ (and-both (leb 1 (S .start)) _ rest₂ .1) .1) .0
-
-  pub shallow : S .extrapolate ≡ true → S .depth ≤ 10
-  unfolding depthLegal
-  shallow on = leb-true (S .depth) 10 (and-both (leb 1 (S .depth)) (leb (S .depth) 10) (rw on at depth-legal) .1)
 
 -- ---- the scratch's room
 module _ (s : Shape) (S : Settings) where

@@ -1,0 +1,2 @@
+-- Laws on the definitions of specs/, which the crates above cite.
+pub mod Settings
