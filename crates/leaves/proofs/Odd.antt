@@ -2,14 +2,14 @@
 -- branches of the soft threshold change places when x turns; everywhere else the laws compose as the expression does. Assumes nothing.
 use mathlib.Core.Path.{_≡_, refl, sym, ap, _∙_}
 use Prim.Native.Nat.{ℕ, zero, suc, _*_}
-use mathlib.Core.Bool.{Bool, true, false, true≢false}
+use mathlib.Core.Bool.{Bool, true, false, true≢false, false≢true}
 use mathlib.Core.List.{List}
 use lib.Dec.{T, ltb, leb·suc-zero}
 use lib.ListN.{length}
-use lib.Ieee.{Float, nan, inf, fin, binary64, up, down, ofBits, neg, sub, lt, le, mul}
-use Rattle.doubles.specs.Num.{_⊖_, _⊗_, _⊘_, #0, #1, at, abs, finite}
+use lib.Ieee.{Float, nan, inf, fin, binary64, up, down, ofBits, neg, add, sub, lt, le, mul, div, round, sum as fsum, size as fsize, units, odd as parity}
+use Rattle.doubles.specs.Num.{_⊖_, _⊗_, _⊘_, #0, #1, at, abs, signum, finite}
 use Rattle.doubles.specs.Steps.{sum}
-use Rattle.doubles.specs.Sign.{Turned, Signs, nonzero}
+use Rattle.doubles.specs.Sign.{plain, flip, Turned, Signs, nonzero}
 use Rattle.doubles.proofs.Laws.Turn.{zero₂}
 use Rattle.doubles.proofs.Laws.Turned.{turned-refl, turned-neg, turned-add, turned-sub, turned-over, turn-l, turn-r}
 use Rattle.doubles.proofs.Laws.Compare.{lt-same, lt-turned, eq-turned, abs-turned}
@@ -53,6 +53,11 @@ soft-turned {s} {x} {x'} t n p = go s p
     go : (s : Bool) → Turned s x x' → Turned s (soft x t) (soft x' t)
     go false p = unfold soft in turned-pick (lt-same t= p) (turned-sub binary64 p t=) (turned-pick (lt-same p (turned-neg t=)) (turned-add binary64 p t=) turned-refl)
     go true p = unfold soft sub in turned-crossed (apart t x n) (lt-turned p (turn-l t=)) (lt-turned (turn-r t=) p) (turned-add binary64 p (turn-l t=)) (turned-add binary64 p (turn-r t=)) (zero-turned true)
+
+-- a threshold below zero does not lie between x and -x: at -1, both 0 and -0 become 1
+pub soft-below-zero : Turned true #0 (neg #0) × (Turned true (soft #0 (neg #1)) (soft (neg #0) (neg #1)) → ⊥)
+unfolding soft plain flip neg add sub lt ofBits round fsum fsize units parity
+soft-below-zero = (record { is = refl }, λ p. true≢false (ap (λ (x : Float). lt x #0) (p .is)))
 
 -- ---- what the ranges say
 alpha-not-below : (alpha : Float) → alphaLegal alpha ≡ true → lt alpha #0 ≡ false
@@ -98,6 +103,11 @@ mcp-prox {s} {v} {v'} alpha gamma step h p =
     turned-else (ap (λ (x : Float). le x tau) a) (zero-turned s)
     (λ e. turned-pick (ap (λ (x : Float). lt (g ⊗ tau) x) a) p
     (turned-over binary64 _ (rw (← a) (turned-scaled (abs v ⊖ tau) (signum-turned (above-nonzero v tau h e) p)))))
+
+-- alpha · step may not be below zero: with alpha = gamma = -1, step 1, 0 becomes 1/2 and -0 becomes -1/2
+pub mcp-below-zero : Turned false #0 (neg #0) × (Turned false (proxMcp (neg #1) (neg #1) #0 #1) (proxMcp (neg #1) (neg #1) (neg #0) #1) → ⊥)
+unfolding proxMcp plain flip abs signum neg add sub mul div lt le ofBits round fsum fsize units parity
+mcp-below-zero = (record { is = refl }, λ p. false≢true (ap (λ (x : Float). lt x #0) (p .is)))
 
 -- ---- violation: equal, and not only up to a zero's sign
 same-excess : {s : Bool} {g g' : Float} (bound : Float) → Turned s g g' → excess g bound ≡ excess g' bound

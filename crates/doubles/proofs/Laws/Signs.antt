@@ -2,11 +2,11 @@
 use mathlib.Core.Path.{_≡_, refl, ap}
 use Prim.Native.Nat.{ℕ, zero, suc, _<_}
 use native.Mathlib.Nat.{le-refl, le-suc, le-trans}
-use mathlib.Core.Bool.{Bool, true, false}
+use mathlib.Core.Bool.{Bool, true, false, false≢true}
 use mathlib.Core.List.{List}
 use lib.Dec.{T}
 use lib.ListN.{length, set}
-use lib.Ieee.{Float, nan, inf, fin, binary64, unlike, neg, ofBits}
+use lib.Ieee.{Float, nan, inf, fin, binary64, unlike, neg, lt, ofBits}
 use Rattle.doubles.specs.Num.{_⊗_, #0, #1, at, signum}
 use Rattle.doubles.specs.Steps.{steps, sum}
 use Rattle.doubles.specs.Sign.{plain, flip, nonzero, Turned, Signs, none, more}
@@ -48,6 +48,11 @@ signum-flip true (fin false m e) = refl
 -- the sign turns, but for a zero's
 pub signum-turned : {s : Bool} {x y : Float} → T (nonzero x) → Turned s x y → Turned s (signum x) (signum y)
 signum-turned {s} {x} {y} h p = record { is = cc (signum-flip s x, turned-exact h p) }
+
+-- at zero it does not: the sign of 0 is 1, and that of -0 is -1
+pub signum-of-zero : Turned false #0 (neg #0) × (Turned false (signum #0) (signum (neg #0)) → ⊥)
+unfolding plain flip neg signum lt ofBits
+signum-of-zero = (record { is = refl }, λ p. false≢true (ap (λ (x : Float). lt x #0) (p .is)))
 
 pub sum-turned : {s : Bool} (t t' : ℕ → Float) (n : ℕ) → ((i : ℕ) → i < n → Turned s (t i) (t' i)) → Turned s (sum t n) (sum t' n)
 unfolding steps

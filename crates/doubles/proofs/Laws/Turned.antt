@@ -1,9 +1,10 @@
 -- `Turned s x y`: y is x, with its sign turned where s is true, but for a zero's sign. The operations keep it. Assumes nothing.
-use mathlib.Core.Path.{_≡_, refl, sym, _∙_}
+use mathlib.Core.Path.{_≡_, refl, sym, ap, _∙_}
 use Prim.Native.Nat.{zero, suc}
-use mathlib.Core.Bool.{Bool, true, false, not}
+use mathlib.Core.Bool.{Bool, true, false, not, false≢true}
 use lib.Dec.{T}
-use lib.Ieee.{Float, nan, inf, fin, Format, unlike, neg, add, sub, mul, div}
+use lib.Ieee.{Float, nan, inf, fin, Format, unlike, neg, add, sub, mul, div, lt, ofBits}
+use Rattle.doubles.specs.Num.{_⊘_, #0, #1}
 use Rattle.doubles.specs.Sign.{plain, flip, Turned, nonzero}
 use Rattle.doubles.proofs.Laws.Turn.{neg-neg, plain-plain, neg-plain, add-neg, add-plain, mul-neg-l, mul-neg-r, mul-plain, div-neg-l, div-neg-r, div-plain}
 
@@ -132,3 +133,8 @@ turned-exact {s} {x} {y} h p = sym (plain-id (flip s x) (rw flip-nonzero h)) ∙
 
 pub turned-div-nonzero : (f : Format) {s t : Bool} {x x' y y' : Float} → T (nonzero y) → Turned s x x' → Turned t y y' → Turned (unlike s t) (div f x y) (div f x' y')
 turned-div-nonzero f {t = t} {y = y} h p q = turned-div f t y p (turned-exact h q)
+
+-- the divisor may be no zero: 0 is -0 but for its sign, and 1 / 0 is not 1 / -0
+pub zero-divides-otherwise : Turned false #0 (neg #0) × (Turned false (#1 ⊘ #0) (#1 ⊘ neg #0) → ⊥)
+unfolding plain flip neg div lt ofBits
+zero-divides-otherwise = (record { is = refl }, λ p. false≢true (ap (λ (x : Float). lt x #0) (p .is)))
