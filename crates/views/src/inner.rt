@@ -1,0 +1,187 @@
+// The work of the thin calls, on the slices of a view: each makes the shape of a CSC design and calls the public call of the crate below. All three
+// slices have the view's lifetime.
+ghost use mathlib.Core.Path.{_≡_};
+ghost use Rattle.leaves.specs.Answer.{numberOf};
+ghost use Rattle.designs.specs.Checks.{verdictOf};
+ghost use Rattle.datafits.specs.Calls as calls;
+ghost use Rattle.runs.specs.Call as call;
+ghost use Rattle.solvers.specs.Buffers.{lent};
+ghost use Rattle.views.specs.Check.{designFault};
+use designs::Feature;
+use designs::Layout;
+use designs::Shape;
+use designs::Verdict;
+use designs::checks::admit;
+use leaves::Number;
+use runs::Fit;
+use runs::Settings;
+
+pub fn check<'a>(
+    starts: &'a [u32],
+    rows: &'a [u32],
+    values: &'a [f64],
+    n: usize,
+    p: usize,
+) -> Verdict
+    ensures { λ r. ⌜ verdictOf r ≡ designFault n p (now (starts .entry)) (now (rows .entry)) (now (values .entry)) ⌝ }
+{
+    let shape = Shape {
+        layout: Layout::Csc,
+        n: n,
+        p: p,
+    };
+    admit(shape, starts, rows, values, &values[..0], true, true)
+}
+
+pub fn coordinate_descent<'a, 'b, 'c, 'd, 'e, 'f>(
+    starts: &'a [u32],
+    rows: &'a [u32],
+    values: &'a [f64],
+    n: usize,
+    p: usize,
+    y: &'b [f64],
+    settings: Settings,
+    w: &'c mut [f64],
+    fit: &'d mut [f64],
+    indices: &'e mut [u32],
+    scratch: &'f mut [f64],
+) -> Fit
+    ensures { λ r. ⌜ (call.fitOf r ≡ call.fitCall (calls.cscShape n p) (now (starts .entry)) (now (rows .entry)) (now (values .entry)) (now (y .entry)) settings (lent (now (w .entry)) (now (fit .entry)) (now (indices .entry)) (now (scratch .entry))))
+        × (lent (now (w .exit)) (now (fit .exit)) (now (indices .exit)) (now (scratch .exit)) ≡ call.fitLeft (calls.cscShape n p) (now (starts .entry)) (now (rows .entry)) (now (values .entry)) (now (y .entry)) settings (lent (now (w .entry)) (now (fit .entry)) (now (indices .entry)) (now (scratch .entry)))) ⌝ }
+{
+    let shape = Shape {
+        layout: Layout::Csc,
+        n: n,
+        p: p,
+    };
+    solvers::coordinate_descent(
+        shape,
+        starts,
+        rows,
+        values,
+        y,
+        settings,
+        w,
+        fit,
+        indices,
+        scratch,
+    )
+}
+
+pub fn compute_alpha_max<'a, 'b, 'c>(
+    starts: &'a [u32],
+    rows: &'a [u32],
+    values: &'a [f64],
+    n: usize,
+    p: usize,
+    y: &'b [f64],
+    xty: &'c mut [f64],
+) -> Number
+    ensures { λ r. ⌜ (numberOf r ≡ calls.alphaMaxCall (calls.cscShape n p) (now (starts .entry)) (now (rows .entry)) (now (values .entry)) (now (y .entry)) (now (xty .entry)))
+        × (now (xty .exit) ≡ calls.alphaMaxLeft (calls.cscShape n p) (now (starts .entry)) (now (rows .entry)) (now (values .entry)) (now (y .entry)) (now (xty .entry))) ⌝ }
+{
+    datafits::compute_alpha_max_sparse(n, p, starts, rows, values, y, xty)
+}
+
+pub fn initialize<'a, 'b, 'c>(
+    starts: &'a [u32],
+    rows: &'a [u32],
+    values: &'a [f64],
+    n: usize,
+    p: usize,
+    y: &'b [f64],
+    prepared: &'c mut [f64],
+) -> Verdict
+    ensures { λ r. ⌜ (verdictOf r ≡ calls.initializeFault (calls.cscShape n p) (now (starts .entry)) (now (rows .entry)) (now (values .entry)) (now (y .entry)) (now (prepared .entry)))
+        × (now (prepared .exit) ≡ calls.initialized (calls.cscShape n p) (now (starts .entry)) (now (rows .entry)) (now (values .entry)) (now (y .entry)) (now (prepared .entry))) ⌝ }
+{
+    let shape = Shape {
+        layout: Layout::Csc,
+        n: n,
+        p: p,
+    };
+    datafits::initialize(shape, starts, rows, values, y, prepared)
+}
+
+pub fn gradient_j<'a, 'b, 'c>(
+    starts: &'a [u32],
+    rows: &'a [u32],
+    values: &'a [f64],
+    n: usize,
+    p: usize,
+    prepared: &'b [f64],
+    fit: &'c [f64],
+    feature: Feature,
+) -> Number
+    ensures { λ r. ⌜ numberOf r ≡ calls.gradientCall (calls.cscShape n p) (now (starts .entry)) (now (rows .entry)) (now (values .entry)) (now (prepared .entry)) (now (fit .entry)) (feature .0) ⌝ }
+{
+    let shape = Shape {
+        layout: Layout::Csc,
+        n: n,
+        p: p,
+    };
+    datafits::gradient_j(shape, starts, rows, values, prepared, fit, feature)
+}
+
+pub fn full_grad<'a, 'b, 'c, 'd>(
+    starts: &'a [u32],
+    rows: &'a [u32],
+    values: &'a [f64],
+    n: usize,
+    p: usize,
+    prepared: &'b [f64],
+    fit: &'c [f64],
+    grad: &'d mut [f64],
+) -> Verdict
+    ensures { λ r. ⌜ (verdictOf r ≡ calls.fullGradFault (calls.cscShape n p) (now (starts .entry)) (now (rows .entry)) (now (values .entry)) (now (prepared .entry)) (now (fit .entry)) (now (grad .entry)))
+        × (now (grad .exit) ≡ calls.fullGrad (calls.cscShape n p) (now (starts .entry)) (now (rows .entry)) (now (values .entry)) (now (prepared .entry)) (now (fit .entry)) (now (grad .entry))) ⌝ }
+{
+    let shape = Shape {
+        layout: Layout::Csc,
+        n: n,
+        p: p,
+    };
+    datafits::full_grad(shape, starts, rows, values, prepared, fit, grad)
+}
+
+pub fn update_model_fit<'a, 'b>(
+    starts: &'a [u32],
+    rows: &'a [u32],
+    values: &'a [f64],
+    n: usize,
+    p: usize,
+    fit: &'b mut [f64],
+    diff: f64,
+    feature: Feature,
+) -> Verdict
+    ensures { λ r. ⌜ (verdictOf r ≡ calls.updateFault (calls.cscShape n p) (now (starts .entry)) (now (rows .entry)) (now (values .entry)) (now (fit .entry)) (feature .0))
+        × (now (fit .exit) ≡ calls.updated (calls.cscShape n p) (now (starts .entry)) (now (rows .entry)) (now (values .entry)) (now (fit .entry)) diff (feature .0)) ⌝ }
+{
+    let shape = Shape {
+        layout: Layout::Csc,
+        n: n,
+        p: p,
+    };
+    datafits::update_model_fit(shape, starts, rows, values, fit, diff, feature)
+}
+
+pub fn compute_extrapolated_fit<'a, 'b, 'c, 'd>(
+    starts: &'a [u32],
+    rows: &'a [u32],
+    values: &'a [f64],
+    n: usize,
+    p: usize,
+    ws: &'b [u32],
+    w: &'c [f64],
+    fit: &'d mut [f64],
+) -> Verdict
+    ensures { λ r. ⌜ (verdictOf r ≡ calls.extrapolatedFault (calls.cscShape n p) (now (starts .entry)) (now (rows .entry)) (now (values .entry)) (now (ws .entry)) (now (w .entry)) (now (fit .entry)))
+        × (now (fit .exit) ≡ calls.extrapolatedFit (calls.cscShape n p) (now (starts .entry)) (now (rows .entry)) (now (values .entry)) (now (ws .entry)) (now (w .entry)) (now (fit .entry))) ⌝ }
+{
+    let shape = Shape {
+        layout: Layout::Csc,
+        n: n,
+        p: p,
+    };
+    datafits::compute_extrapolated_fit(shape, starts, rows, values, ws, w, fit)
+}

@@ -1,0 +1,157 @@
+// A sparse design as one view: its three slices travel together. Each call over a view is thin: it takes the view apart, and `inner` does the work
+// on the slices, as the public call of the crate below for a CSC design.
+ghost use mathlib.Core.Path.{_≡_};
+ghost use Rattle.leaves.specs.Answer.{numberOf};
+ghost use Rattle.designs.specs.Checks.{verdictOf};
+ghost use Rattle.datafits.specs.Calls as calls;
+ghost use Rattle.runs.specs.Call as call;
+ghost use Rattle.solvers.specs.Buffers.{lent};
+ghost use Rattle.views.specs.Check.{designFault};
+use designs::Feature;
+use designs::Verdict;
+use leaves::Number;
+use runs::Fit;
+use runs::Settings;
+
+pub mod inner;
+
+// Column starts, the row of each stored value, and the stored values.
+pub struct CSCArray<'a> {
+    pub starts: &'a [u32],
+    pub rows: &'a [u32],
+    pub values: &'a [f64],
+}
+
+pub fn new<'a>(starts: &'a [u32], rows: &'a [u32], values: &'a [f64]) -> CSCArray<'a>
+    ensures { λ r. ⌜ (r .starts ≡ starts .entry) × (r .rows ≡ rows .entry) × (r .values ≡ values .entry) ⌝ }
+{
+    CSCArray {
+        starts,
+        rows,
+        values,
+    }
+}
+
+// The check of a design alone: refusals 1, 4, 5 and 6.
+pub fn check<'a>(x: CSCArray<'a>, n: usize, p: usize) -> Verdict
+    ensures { λ r. ⌜ verdictOf r ≡ designFault n p (now (x .entry .starts)) (now (x .entry .rows)) (now (x .entry .values)) ⌝ }
+{
+    inner::check(x.starts, x.rows, x.values, n, p)
+}
+
+// The whole call.
+pub fn coordinate_descent_sparse<'a, 'b, 'c, 'd, 'e, 'f>(
+    x: CSCArray<'a>,
+    n: usize,
+    p: usize,
+    y: &'b [f64],
+    settings: Settings,
+    w: &'c mut [f64],
+    fit: &'d mut [f64],
+    indices: &'e mut [u32],
+    scratch: &'f mut [f64],
+) -> Fit
+    ensures { λ r. ⌜ (call.fitOf r ≡ call.fitCall (calls.cscShape n p) (now (x .entry .starts)) (now (x .entry .rows)) (now (x .entry .values)) (now (y .entry)) settings (lent (now (w .entry)) (now (fit .entry)) (now (indices .entry)) (now (scratch .entry))))
+        × (lent (now (w .exit)) (now (fit .exit)) (now (indices .exit)) (now (scratch .exit)) ≡ call.fitLeft (calls.cscShape n p) (now (x .entry .starts)) (now (x .entry .rows)) (now (x .entry .values)) (now (y .entry)) settings (lent (now (w .entry)) (now (fit .entry)) (now (indices .entry)) (now (scratch .entry)))) ⌝ }
+{
+    inner::coordinate_descent(
+        x.starts,
+        x.rows,
+        x.values,
+        n,
+        p,
+        y,
+        settings,
+        w,
+        fit,
+        indices,
+        scratch,
+    )
+}
+
+// The smallest alpha for which no weight leaves zero; X'y is left in the first p places of a lent buffer.
+pub fn compute_alpha_max_sparse<'a, 'b, 'c>(
+    x: CSCArray<'a>,
+    n: usize,
+    p: usize,
+    y: &'b [f64],
+    xty: &'c mut [f64],
+) -> Number
+    ensures { λ r. ⌜ (numberOf r ≡ calls.alphaMaxCall (calls.cscShape n p) (now (x .entry .starts)) (now (x .entry .rows)) (now (x .entry .values)) (now (y .entry)) (now (xty .entry)))
+        × (now (xty .exit) ≡ calls.alphaMaxLeft (calls.cscShape n p) (now (x .entry .starts)) (now (x .entry .rows)) (now (x .entry .values)) (now (y .entry)) (now (xty .entry))) ⌝ }
+{
+    inner::compute_alpha_max(x.starts, x.rows, x.values, n, p, y, xty)
+}
+
+// The constants and X'y into the first 2p places of a lent buffer.
+pub fn initialize_sparse<'a, 'b, 'c>(
+    x: CSCArray<'a>,
+    n: usize,
+    p: usize,
+    y: &'b [f64],
+    prepared: &'c mut [f64],
+) -> Verdict
+    ensures { λ r. ⌜ (verdictOf r ≡ calls.initializeFault (calls.cscShape n p) (now (x .entry .starts)) (now (x .entry .rows)) (now (x .entry .values)) (now (y .entry)) (now (prepared .entry)))
+        × (now (prepared .exit) ≡ calls.initialized (calls.cscShape n p) (now (x .entry .starts)) (now (x .entry .rows)) (now (x .entry .values)) (now (y .entry)) (now (prepared .entry))) ⌝ }
+{
+    inner::initialize(x.starts, x.rows, x.values, n, p, y, prepared)
+}
+
+// The gradient of a feature at a fit.
+pub fn gradient_j_sparse<'a, 'b, 'c>(
+    x: CSCArray<'a>,
+    n: usize,
+    p: usize,
+    prepared: &'b [f64],
+    fit: &'c [f64],
+    feature: Feature,
+) -> Number
+    ensures { λ r. ⌜ numberOf r ≡ calls.gradientCall (calls.cscShape n p) (now (x .entry .starts)) (now (x .entry .rows)) (now (x .entry .values)) (now (prepared .entry)) (now (fit .entry)) (feature .0) ⌝ }
+{
+    inner::gradient_j(x.starts, x.rows, x.values, n, p, prepared, fit, feature)
+}
+
+// The gradients of all features at a fit, into the first p places of a lent buffer.
+pub fn full_grad_sparse<'a, 'b, 'c, 'd>(
+    x: CSCArray<'a>,
+    n: usize,
+    p: usize,
+    prepared: &'b [f64],
+    fit: &'c [f64],
+    grad: &'d mut [f64],
+) -> Verdict
+    ensures { λ r. ⌜ (verdictOf r ≡ calls.fullGradFault (calls.cscShape n p) (now (x .entry .starts)) (now (x .entry .rows)) (now (x .entry .values)) (now (prepared .entry)) (now (fit .entry)) (now (grad .entry)))
+        × (now (grad .exit) ≡ calls.fullGrad (calls.cscShape n p) (now (x .entry .starts)) (now (x .entry .rows)) (now (x .entry .values)) (now (prepared .entry)) (now (fit .entry)) (now (grad .entry))) ⌝ }
+{
+    inner::full_grad(x.starts, x.rows, x.values, n, p, prepared, fit, grad)
+}
+
+// The fit gains `diff` times a column.
+pub fn update_model_fit_sparse<'a, 'b>(
+    x: CSCArray<'a>,
+    n: usize,
+    p: usize,
+    fit: &'b mut [f64],
+    diff: f64,
+    feature: Feature,
+) -> Verdict
+    ensures { λ r. ⌜ (verdictOf r ≡ calls.updateFault (calls.cscShape n p) (now (x .entry .starts)) (now (x .entry .rows)) (now (x .entry .values)) (now (fit .entry)) (feature .0))
+        × (now (fit .exit) ≡ calls.updated (calls.cscShape n p) (now (x .entry .starts)) (now (x .entry .rows)) (now (x .entry .values)) (now (fit .entry)) diff (feature .0)) ⌝ }
+{
+    inner::update_model_fit(x.starts, x.rows, x.values, n, p, fit, diff, feature)
+}
+
+// The fit of the weights at a list of features, all others counting as zero, into the first n places of a lent buffer.
+pub fn compute_extrapolated_fit_sparse<'a, 'b, 'c, 'd>(
+    x: CSCArray<'a>,
+    n: usize,
+    p: usize,
+    ws: &'b [u32],
+    w: &'c [f64],
+    fit: &'d mut [f64],
+) -> Verdict
+    ensures { λ r. ⌜ (verdictOf r ≡ calls.extrapolatedFault (calls.cscShape n p) (now (x .entry .starts)) (now (x .entry .rows)) (now (x .entry .values)) (now (ws .entry)) (now (w .entry)) (now (fit .entry)))
+        × (now (fit .exit) ≡ calls.extrapolatedFit (calls.cscShape n p) (now (x .entry .starts)) (now (x .entry .rows)) (now (x .entry .values)) (now (ws .entry)) (now (w .entry)) (now (fit .entry))) ⌝ }
+{
+    inner::compute_extrapolated_fit(x.starts, x.rows, x.values, n, p, ws, w, fit)
+}
