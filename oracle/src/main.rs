@@ -9,9 +9,11 @@ mod check;
 mod designs;
 mod files;
 mod float;
+mod large;
 mod leaves;
 mod list;
 mod loops;
+mod old;
 mod published;
 mod random;
 mod record;
@@ -22,8 +24,8 @@ use record::Variant;
 use std::process::ExitCode;
 
 const USAGE: &str = "usage: oracle ask WORD.. | oracle answer | \
-    oracle list leaves|designs|runs|tiles SEED COUNT | oracle tile [published] | \
-    oracle files SEED COUNT | oracle damage SEED COUNT | oracle check";
+    oracle list leaves|designs|runs|tiles SEED COUNT | oracle tile [published] | oracle old | \
+    oracle files SEED COUNT | oracle damage SEED COUNT | oracle large [quick] | oracle check";
 
 fn decimal(word: &str) -> Result<u64, String> {
     let number = word.parse::<u64>();
@@ -47,6 +49,7 @@ fn run(arguments: &[String]) -> Result<(), String> {
         ["answer"] => record::answer_all(),
         ["list", ref rest @ ..] => list(rest),
         ["tile"] => files::tile(Variant::Loops),
+        ["old"] => old::tile(),
         ["tile", "published"] => files::tile(Variant::Published),
         ["files", seed, count] => {
             files::write("files", &files::FILES, decimal(seed)?, decimal(count)?)
@@ -54,6 +57,8 @@ fn run(arguments: &[String]) -> Result<(), String> {
         ["damage", seed, count] => {
             files::write("damage", &files::DAMAGES, decimal(seed)?, decimal(count)?)
         }
+        ["large"] => large::write(false),
+        ["large", "quick"] => large::write(true),
         ["check"] => check::check(),
         _ => Err(USAGE.into()),
     }

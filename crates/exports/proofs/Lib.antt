@@ -1,2 +1,3 @@
--- What is proved of the calls from other languages beside their promises.
+-- Laws that belong to no one function, and the tightness of the public promises.
+mod Laws
 mod Tight

@@ -1,7 +1,17 @@
--- A fault as two numbers: document 01's number and place, both 0 where there is none.
+-- Refusals, settings and reports as plain numbers, for both layouts.
 use Prim.Native.Nat.{ℕ}
+use mathlib.Core.Bool.{not}
+use lib.Dec.{eqb}
+use lib.Ieee.{Float, nan}
+use Rattle.doubles.specs.Num.{pick}
+use Rattle.leaves.specs.Answer.{Outcome, refused, answered}
+use Rattle.leaves.specs.declared.penalties.separable.Penalty.{Penalty}
+use Rattle.leaves.specs.declared.penalties.separable.Penalty.the-variants.{L1, L1PlusL2, MCP}
 use Rattle.designs.specs.Checks.{Fault, none, fault}
+use Rattle.runs.specs.declared.Settings.{Settings}
+use Rattle.runs.specs.declared.Report.{Report}
 
+-- ---- a fault as two numbers: document 01's number and place, both 0 where there is none
 abbrev pub numberOfFault : Fault → ℕ
 numberOfFault none = 0
 numberOfFault (fault number place) = number
@@ -9,3 +19,42 @@ numberOfFault (fault number place) = number
 abbrev pub placeOfFault : Fault → ℕ
 placeOfFault none = 0
 placeOfFault (fault number place) = place
+
+-- ---- the settings: "penalty 0 L1/1 L1PlusL2/2 MCP"; "second number (.. ignored for L1)"
+-- any other code stands for a penalty whose alpha is in no range, and so for refusal 2
+abbrev pub noPenalty : Penalty
+noPenalty = L1 nan
+
+unfoldable pub penaltyOf : ℕ → Float → Float → Penalty
+penaltyOf code alpha second =
+    pick (eqb code 0) (L1 alpha) (pick (eqb code 1) (L1PlusL2 alpha second) (pick (eqb code 2) (MCP alpha second) noPenalty))
+
+-- extrapolation is off at 0, and on at any other number
+unfoldable pub settingsOf : ℕ → Float → Float → Float → ℕ → ℕ → ℕ → ℕ → ℕ → Settings
+settingsOf code alpha second tolerance start iterations epochs extrapolate depth = record {
+  penalty = penaltyOf code alpha second;
+  tolerance = tolerance;
+  start = start;
+  iterations = iterations;
+  epochs = epochs;
+  extrapolate = not (eqb extrapolate 0);
+  depth = depth;
+}
+
+-- ---- the answer of a fit as numbers: the refusal's number and place, both 0 where there is none
+abbrev pub numberOfFit : Outcome Report → ℕ
+numberOfFit (refused number place) = number
+numberOfFit (answered r) = 0
+
+abbrev pub placeOfFit : Outcome Report → ℕ
+placeOfFit (refused number place) = place
+placeOfFit (answered r) = 0
+
+-- the report's numbers are lent too: refused, they are what they were
+abbrev pub reported : Outcome Report → Report → Report
+reported (refused number place) old = old
+reported (answered r) old = r
+
+abbrev pub report : ℕ → Float → ℕ → ℕ → ℕ → Report
+report status violation iterations epochs extrapolations =
+    record { status = status; violation = violation; iterations = iterations; epochs = epochs; extrapolations = extrapolations }

@@ -1,2 +1,3 @@
 -- What a reader believes of the calls from other languages.
 pub mod Codes
+pub mod Kernels

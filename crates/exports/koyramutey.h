@@ -1,0 +1,81 @@
+/* Koyramutey for C and for whatever calls C. Link libexports.a, which `rt staticlib exports` writes.
+
+   A slice is a pointer and then its length; a null pointer with length 0 is an empty slice. Slices do not overlap, and each pointer to a
+   number points to one. Each call answers document 01's refusal number, 0 where there is none; a refusal other than 7 changes no buffer.
+   Where a call has `place`, the refusal's place is left there, 0 where there is no refusal. */
+#ifndef KOYRAMUTEY_H
+#define KOYRAMUTEY_H
+
+#include <stddef.h>
+#include <stdint.h>
+
+#ifdef __cplusplus
+extern "C" {
+#endif
+
+/* The whole fit of a dense design, n·p values row by row, to n targets y.
+
+   penalty: 0 L1, 1 L1PlusL2 (second is its ratio), 2 MCP (second is its gamma); any other is refused with 2.
+   extrapolate: 0 off, any other on, with depth 1 to 10.
+   Room: p weights, n fit entries, p indices, and scratch 3·p, or (2·depth + 5)·p + n with extrapolation.
+   The report, which a refusal leaves as it was: status (1 met, 2 spent), violation, and how many working sets were built, passes begun and
+   extrapolations accepted. */
+uint32_t koyramutey_fit_dense(
+    size_t n, size_t p,
+    const double *values, size_t values_len,
+    const double *y, size_t y_len,
+    uint32_t penalty, double alpha, double second, double tolerance,
+    size_t start, size_t iterations, size_t epochs, uint32_t extrapolate, size_t depth,
+    double *w, size_t w_len,
+    double *fit, size_t fit_len,
+    uint32_t *indices, size_t indices_len,
+    double *scratch, size_t scratch_len,
+    uint32_t *status, double *violation, size_t *sets, size_t *passes, size_t *accepted,
+    size_t *place);
+
+/* The same of a CSC design: p + 1 column starts, and for each stored value its row. */
+uint32_t koyramutey_fit_csc(
+    size_t n, size_t p,
+    const uint32_t *starts, size_t starts_len,
+    const uint32_t *rows, size_t rows_len,
+    const double *values, size_t values_len,
+    const double *y, size_t y_len,
+    uint32_t penalty, double alpha, double second, double tolerance,
+    size_t start, size_t iterations, size_t epochs, uint32_t extrapolate, size_t depth,
+    double *w, size_t w_len,
+    double *fit, size_t fit_len,
+    uint32_t *indices, size_t indices_len,
+    double *scratch, size_t scratch_len,
+    uint32_t *status, double *violation, size_t *sets, size_t *passes, size_t *accepted,
+    size_t *place);
+
+/* The gradients of all features of a dense design at a fit, into the first p places of grad. prepared: p Lipschitz constants, then the p
+   entries of X'y. */
+uint32_t koyramutey_full_grad_dense(
+    size_t n, size_t p,
+    const double *values, size_t values_len,
+    const double *prepared, size_t prepared_len,
+    const double *fit, size_t fit_len,
+    double *grad, size_t grad_len,
+    size_t *place);
+
+/* The product of a column of a dense design and the first n places of v. Sizes alone are tested (1 and 3), no number. */
+uint32_t koyramutey_column_product_dense(
+    size_t n, size_t p,
+    const double *values, size_t values_len,
+    size_t column,
+    const double *v, size_t v_len,
+    double *product);
+
+/* The first n places of fit gain difference times a column of a dense design. Sizes alone are tested (1 and 3), no number. */
+uint32_t koyramutey_column_update_dense(
+    size_t n, size_t p,
+    const double *values, size_t values_len,
+    size_t column, double difference,
+    double *fit, size_t fit_len);
+
+#ifdef __cplusplus
+}
+#endif
+
+#endif

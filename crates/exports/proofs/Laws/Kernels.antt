@@ -1,0 +1,68 @@
+-- The tests of a kernel, and what they show. Assumes nothing.
+use mathlib.Core.Path.{_≡_, sym}
+use mathlib.Core.Bool.{Bool, true, false}
+use mathlib.Core.List.{List}
+use Prim.Native.Nat.{ℕ, _≤_, _<_}
+use native.Mathlib.Nat.{le-of-eq}
+use lib.Dec.{ltb}
+use lib.ListN.{length}
+use lib.Ieee.{Float}
+use borrow.Author.Tests.{le-leb, lt-leb, leb-true, ltb-true}
+use Rattle.doubles.specs.Num.{_and_}
+use Rattle.doubles.proofs.Laws.Choice.{and-both}
+use Rattle.designs.specs.Checks.{none, fault, sizes}
+use Rattle.designs.specs.Design.{design, laid, dot, moved}
+use Rattle.designs.specs.Sound.{Held, Whole}
+use Rattle.designs.specs.declared.Shape.{Shape}
+use Rattle.designs.proofs.Laws.Passed.{sized, spared, dense-values}
+use Rattle.datafits.specs.Calls.{denseShape, nothing}
+use Rattle.exports.specs.Kernels.{kernelFault, productLeft, updateLeft}
+
+module _ (n p : ℕ) (values : List Float) (column : ℕ) (s : Shape) (hs : s ≡ denseShape n p) where
+  -- the code's tests t, of which z is that of the sizes
+  module _ (places : ℕ) (t z : Bool) (ht : t ≡ (z and ltb column p)) (hz : z ≡ sizes s nothing nothing values) where
+    pub fine : t ≡ true → n ≤ places → none ≡ kernelFault n p values column places
+    unfolding kernelFault
+    fine h k = rw (← hs, ← hz, ← ht, h, le-leb n places k)
+
+    pub short : t ≡ true → places < n → fault 3 0 ≡ kernelFault n p values column places
+    unfolding kernelFault
+    short h k = rw (← hs, ← hz, ← ht, h, lt-leb n places k)
+
+    pub wrong : t ≡ false → fault 1 0 ≡ kernelFault n p values column places
+    unfolding kernelFault
+    wrong h = rw (← hs, ← hz, ← ht, h)
+
+  -- what a column's functions ask
+  pub ready : (places : ℕ) → none ≡ kernelFault n p values column places → (column < s .p) × Whole s nothing nothing values × (s .n ≤ places)
+  unfolding kernelFault Held
+  ready places e =
+      let a = spared (sizes (denseShape n p) nothing nothing values and ltb column p) 1 _ (sym e) in
+      let b = and-both _ _ (a .0) in
+      let z = sized (denseShape n p) nothing nothing values (b .0) in
+      rw hs (
+        ltb-true column p (b .1),
+        le-of-eq (sym (dense-values n p nothing nothing values (z .agree))),
+        leb-true n places (spared _ 3 none (a .1) .0),
+      )
+
+  pub product-told : (v : List Float) (old x : Float) → none ≡ kernelFault n p values column (length v)
+      → x ≡ dot (design s nothing nothing values) column v → x ≡ productLeft n p values column v old
+  unfolding productLeft laid
+  product-told v old x e h = rw (← e) (rw hs at h)
+
+  pub update-told : (d : Float) (fit x : List Float) → none ≡ kernelFault n p values column (length fit)
+      → x ≡ moved (design s nothing nothing values) column d fit → x ≡ updateLeft n p values column d fit
+  unfolding updateLeft laid
+  update-told d fit x e h = rw (← e) (rw hs at h)
+
+module _ (n p : ℕ) (values : List Float) (column number place : ℕ) where
+  pub product-kept : (v : List Float) (old : Float) → fault number place ≡ kernelFault n p values column (length v)
+      → old ≡ productLeft n p values column v old
+  unfolding productLeft
+  product-kept v old e = rw (← e)
+
+  pub update-kept : (d : Float) (fit : List Float) → fault number place ≡ kernelFault n p values column (length fit)
+      → fit ≡ updateLeft n p values column d fit
+  unfolding updateLeft
+  update-kept d fit e = rw (← e)

@@ -1,0 +1,54 @@
+-- `koyramutey_fit_dense`: the call, and its answer in numbers. Assumes nothing.
+use Rattle.exports.proofs.Laws.Codes.{called}
+use borrow.Author.Needs.{needs}
+use Rattle.exports.proofs.koyramutey_fit_dense.Statement.{statement}
+use Rattle.exports.proofs.koyramutey_fit_dense.Tie as tie
+
+settings-of-requires : tie.Need-settings-of-requires
+settings-of-requires c κs = search needs
+
+dense-requires : tie.Need-dense-requires
+dense-requires c κs = search needs
+
+slice-aggregate-coordinate-descent : tie.Need-slice-aggregate-coordinate-descent
+slice-aggregate-coordinate-descent c = search needs
+
+slice-aggregate-coordinate-descent-2 : tie.Need-slice-aggregate-coordinate-descent-2
+slice-aggregate-coordinate-descent-2 c = search needs
+
+coordinate-descent-requires : tie.Need-coordinate-descent-requires
+coordinate-descent-requires c κs = search needs
+
+tell-requires : tie.Need-tell-requires
+tell-requires c κs = search needs
+
+same-length : tie.Need-same-length
+same-length c = search needs
+
+same-length-2 : tie.Need-same-length-2
+same-length-2 c = search needs
+
+same-length-3 : tie.Need-same-length-3
+same-length-3 c = search needs
+
+same-length-4 : tie.Need-same-length-4
+same-length-4 c = search needs
+
+returns : tie.Need-returns
+returns c = called _ _ _ _ _ _ _ _ _ (c .before .before .before .before .before .before .before .before .before .before .before .before .before .before .before .before .before .before .before .before .before .before .dense .ensures) (c .before .before .before .before .before .before .before .before .before .before .before .before .before .before .before .before .before .before .before .before .before .before .before .settings-of .ensures) _ _ _ _ _ _ (c .before .before .before .before .before .before .before .before .before .before .before .before .before .before .before .coordinate-descent .ensures .0) (c .before .before .before .before .before .before .before .before .before .before .before .before .before .before .before .coordinate-descent .ensures .1) (c .tell .ensures .0) (c .tell .ensures .1) (c .tell .ensures .2)
+
+pub koyramutey-fit-dense-spec : {M : Type 1} → statement M
+koyramutey-fit-dense-spec =
+    tie.close
+    (tie.spec
+    settings-of-requires
+    dense-requires
+    slice-aggregate-coordinate-descent
+    slice-aggregate-coordinate-descent-2
+    coordinate-descent-requires
+    tell-requires
+    same-length
+    same-length-2
+    same-length-3
+    same-length-4
+    returns)

@@ -1,0 +1,79 @@
+//! The calls of the library `exports`, as a Rust program sees them: a slice passes as a pointer and then a length.
+
+use crate::cases::{Case, Ending, Penalty};
+
+#[link(name = "exports", kind = "static")]
+extern "C" {
+    fn koyramutey_fit_dense(
+        n: usize, p: usize, values: *const f64, values_len: usize, y: *const f64, y_len: usize,
+        penalty: u32, alpha: f64, second: f64, tolerance: f64, start: usize, iterations: usize, epochs: usize, extrapolate: u32, depth: usize,
+        w: *mut f64, w_len: usize, fit: *mut f64, fit_len: usize, indices: *mut u32, indices_len: usize, scratch: *mut f64, scratch_len: usize,
+        status: *mut u32, violation: *mut f64, sets: *mut usize, passes: *mut usize, accepted: *mut usize, place: *mut usize,
+    ) -> u32;
+    fn koyramutey_fit_csc(
+        n: usize, p: usize, starts: *const u32, starts_len: usize, rows: *const u32, rows_len: usize,
+        values: *const f64, values_len: usize, y: *const f64, y_len: usize,
+        penalty: u32, alpha: f64, second: f64, tolerance: f64, start: usize, iterations: usize, epochs: usize, extrapolate: u32, depth: usize,
+        w: *mut f64, w_len: usize, fit: *mut f64, fit_len: usize, indices: *mut u32, indices_len: usize, scratch: *mut f64, scratch_len: usize,
+        status: *mut u32, violation: *mut f64, sets: *mut usize, passes: *mut usize, accepted: *mut usize, place: *mut usize,
+    ) -> u32;
+}
+
+/// What is lent to a fit.
+pub struct Buffers {
+    pub w: Vec<f64>,
+    pub fit: Vec<f64>,
+    pub indices: Vec<u32>,
+    pub scratch: Vec<f64>,
+}
+
+/// An empty slice passes as a null pointer.
+fn pointer<T>(slice: &[T]) -> *const T {
+    if slice.is_empty() { std::ptr::null() } else { slice.as_ptr() }
+}
+
+fn pointer_mut<T>(slice: &mut [T]) -> *mut T {
+    if slice.is_empty() { std::ptr::null_mut() } else { slice.as_mut_ptr() }
+}
+
+pub fn fit(case: &Case, lent: &mut Buffers) -> Ending {
+    let s = &case.settings;
+    let code = match s.penalty {
+        Penalty::L1 => 0,
+        Penalty::L1PlusL2 => 1,
+        Penalty::Mcp => 2,
+    };
+    let (n, p) = (case.n as usize, case.p as usize);
+    let (start, iterations, epochs) = (s.start as usize, s.iterations as usize, s.epochs as usize);
+    let (extrapolate, depth) = (u32::from(s.extrapolate), s.depth as usize);
+    let Buffers { w, fit, indices, scratch } = lent;
+    let (mut status, mut violation, mut counts, mut place) = (0, 0.0, [0usize; 3], 0);
+    let [sets, passes, accepted] = &mut counts;
+    let number = if case.csc {
+        unsafe {
+            koyramutey_fit_csc(
+                n, p, pointer(&case.starts), case.starts.len(), pointer(&case.rows), case.rows.len(),
+                pointer(&case.values), case.values.len(), pointer(&case.targets), case.targets.len(),
+                code, s.alpha, s.second, s.tolerance, start, iterations, epochs, extrapolate, depth,
+                pointer_mut(w), w.len(), pointer_mut(fit), fit.len(), pointer_mut(indices), indices.len(), pointer_mut(scratch), scratch.len(),
+                &mut status, &mut violation, sets, passes, accepted, &mut place,
+            )
+        }
+    } else {
+        unsafe {
+            koyramutey_fit_dense(
+                n, p, pointer(&case.values), case.values.len(), pointer(&case.targets), case.targets.len(),
+                code, s.alpha, s.second, s.tolerance, start, iterations, epochs, extrapolate, depth,
+                pointer_mut(w), w.len(), pointer_mut(fit), fit.len(), pointer_mut(indices), indices.len(), pointer_mut(scratch), scratch.len(),
+                &mut status, &mut violation, sets, passes, accepted, &mut place,
+            )
+        }
+    };
+    if number != 0 {
+        assert_eq!((status, violation.to_bits(), counts), (0, 0, [0; 3]), "a refusal wrote to the report");
+        return Ending::Refused { number, place: place as u64 };
+    }
+    assert_eq!(place, 0, "a place without a refusal");
+    let (weights, fit) = (lent.w[..p].to_vec(), lent.fit[..n].to_vec());
+    Ending::Fitted { status, violation, counts: counts.map(|count| count as u64), weights, fit }
+}
