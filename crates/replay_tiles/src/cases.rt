@@ -3,6 +3,7 @@ ghost use mathlib.Core.Path.{_≡_};
 ghost use Prim.Native.Nat.{_≤_, _<_};
 use crate::head::Head;
 use crate::head::lengths_of;
+use crate::signs::Tallies;
 use crate::tiles;
 use libc::STDOUT_FILENO;
 use vectors::progress::Counts;
@@ -46,14 +47,14 @@ pub fn open(path: &[u8]) -> Replay {
 
 // One byte of a comment, or one case. A list that cannot be read on, or ends within a comment, counts as a bad case, so that what was not
 // read is not taken for right.
-pub fn turn(mut r: Replay, path: &[u8]) -> Replay
+pub fn turn(mut r: Replay, path: &[u8], tallies: &mut Tallies) -> Replay
     requires { ⌜ 0 < r .left ⌝ }
     ensures { λ s. ⌜ s .left < r .left ⌝ }
 {
     r.left = r.left - 1;
     let first = first_byte(r.fd);
     match first {
-        First::Byte(byte) => take_byte(r, byte),
+        First::Byte(byte) => take_byte(r, byte, tallies),
         First::End => ended(r),
         First::Failed => {
             os::fail(path);
@@ -74,7 +75,7 @@ fn first_byte(fd: i32) -> First {
     }
 }
 
-fn take_byte(mut r: Replay, byte: u8) -> Replay
+fn take_byte(mut r: Replay, byte: u8, tallies: &mut Tallies) -> Replay
     ensures { λ s. ⌜ s .left ≤ r .left ⌝ }
 {
     if r.comment {
@@ -85,18 +86,19 @@ fn take_byte(mut r: Replay, byte: u8) -> Replay
         r.comment = true;
         return r;
     }
-    replay_case(r, byte)
+    replay_case(r, byte, tallies)
 }
 
 // The case whose head begins with this byte. Behind what is no head nothing says where the next case begins, so the list is over there.
-fn replay_case(mut r: Replay, first: u8) -> Replay
+fn replay_case(mut r: Replay, first: u8, tallies: &mut Tallies) -> Replay
     ensures { λ s. ⌜ s .left ≤ r .left ⌝ }
 {
     let head = head_from(r.fd, first);
     let lengths = lengths_of(&head);
     if lengths.fits {
-        let verdict = tiles::replay(r.fd, lengths);
-        let counts = count(r.counts, verdict, &head);
+        let before = r.counts;
+        let verdict = tiles::replay(r.fd, lengths, before.cases, tallies);
+        let counts = count(before, verdict, &head);
         r.counts = counts;
         r
     } else {

@@ -3,6 +3,8 @@ ghost use mathlib.Core.Path.{_≡_};
 ghost use Prim.Native.Nat.{_+_, _*_, _≤_};
 ghost use lib.ListN.{length, take};
 use crate::head::Lengths;
+use crate::signs::Tallies;
+use crate::signs::turn_file;
 use answers::answer;
 use listings::Written;
 use vectors::digit;
@@ -20,7 +22,8 @@ fn room(count: usize) -> Room
     [0; 98307]
 }
 
-pub fn replay(fd: i32, lengths: Lengths) -> Verdict
+// Replays the case of this number, and counts what the sign law's runs on it came to.
+pub fn replay(fd: i32, lengths: Lengths, number: u64, tallies: &mut Tallies) -> Verdict
     requires { ⌜ (lengths .file ≤ 49153) × (lengths .text ≤ 8192) ⌝ }
 {
     let file_length = lengths.file;
@@ -34,11 +37,20 @@ pub fn replay(fd: i32, lengths: Lengths) -> Verdict
         &mut hex[..hex_length],
         &mut file[..file_length],
         &mut text[..text_length],
+        number,
+        tallies,
     )
 }
 
 // A case is bad if the list ends within it, or if its line is no hex.
-fn replay_in(fd: i32, hex: &mut [u8], file: &mut [u8], text: &mut [u8]) -> Verdict
+fn replay_in(
+    fd: i32,
+    hex: &mut [u8],
+    file: &mut [u8],
+    text: &mut [u8],
+    number: u64,
+    tallies: &mut Tallies,
+) -> Verdict
     requires { ⌜ (length (now hex) ≡ 2 * length (now file) + 1) × (length (now file) ≤ 49153) × (length (now text) ≤ 8192) ⌝ }
 {
     let hex_read = io::read_full(fd, hex);
@@ -47,6 +59,7 @@ fn replay_in(fd: i32, hex: &mut [u8], file: &mut [u8], text: &mut [u8]) -> Verdi
         return Verdict::Bad;
     }
     if decode(hex, file) {
+        turn_file(file, number, tallies);
         judge(agrees(file, text))
     } else {
         Verdict::Bad

@@ -1,13 +1,13 @@
--- `replay_tiles::main` is safe and ends: each turn leaves fewer. Assumes nothing.
+-- `replay` is safe and ends: each turn leaves fewer. Assumes nothing.
 use borrow.Author.Needs.{needs}
-use Rattle.replay_tiles.proofs.main.Statement.{statement}
-use Rattle.replay_tiles.proofs.main.Tie as tie
+use Rattle.replay_tiles.proofs.replay.Statement.{statement}
+use Rattle.replay_tiles.proofs.replay.Tie as tie
 
 abbrev Inv-loop : tie.InvT-loop
-Inv-loop path length r₀ r = Unit
+Inv-loop which path length tallies₀ r₀ tallies r = Unit
 
 abbrev μ-loop : tie.MeasureT-loop
-μ-loop path length r₀ r = r .left
+μ-loop which path length tallies₀ r₀ tallies r = r .left
 
 buffer-requires : tie.Need-buffer-requires Inv-loop μ-loop
 buffer-requires c κs = search needs
@@ -48,11 +48,14 @@ loop-again c = search needs
 end-requires : tie.Need-end-requires Inv-loop μ-loop
 end-requires c κs = search needs
 
+end-requires-2 : tie.Need-end-requires-2 Inv-loop μ-loop
+end-requires-2 c κs = search needs
+
 returns : tie.Need-returns Inv-loop μ-loop
 returns c = search needs
 
-pub main-spec : {M : Type 1} → statement M
-main-spec =
+pub replay-spec : {M : Type 1} → statement M
+replay-spec =
     tie.close
     (tie.spec
     Inv-loop
@@ -70,4 +73,5 @@ main-spec =
     loop-less
     loop-again
     end-requires
+    end-requires-2
     returns)
