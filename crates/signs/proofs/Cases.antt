@@ -26,7 +26,7 @@ use Rattle.runs.specs.Run.{State}
 use Rattle.runs.specs.Call.{Lent, fitFault, fitted, weightsOf, fitEntries, fitCall}
 use Rattle.runs.specs.declared.Report.{Report}
 use Rattle.runs.specs.declared.Settings.{Settings}
-use Rattle.signs.specs.Turning.{TurnedState, Both, both-going, both-stopped, both-bad, SameCall, turned, signsOf}
+use Rattle.signs.specs.Turning.{SameRun, Both, both-going, both-stopped, both-bad, SameCall, turned, signsOf}
 use Rattle.signs.proofs.Laws.Exact.{signs-zeros}
 use Rattle.signs.proofs.Laws.Sets.{zero-same}
 use Rattle.signs.proofs.SignLaw.{passed, sign-law-passed, sign-law}
@@ -117,10 +117,10 @@ module _ {c : ℕ → Bool} {t : Bool} {s : Shape} {starts rows : List ℕ} {val
       × Signs (λ (i : ℕ). t) (fitEntries (s .n) (fitted s starts rows values y S)) (fitEntries (s .n) (fitted s starts rows values' y' S))
   left-turned e = go _ _ (law .run e)
     where
-      go : (r r' : Stage State) → Both (TurnedState c t S) r r'
+      go : (r r' : Stage State) → Both (SameRun c t S) r r'
           → Signs (λ (j : ℕ). unlike (c j) t) (weightsOf (s .p) r) (weightsOf (s .p) r') × Signs (λ (i : ℕ). t) (fitEntries (s .n) r) (fitEntries (s .n) r')
       go _ _ (both-going u) = (signs-zeros _ (s .p), signs-zeros _ (s .n))
-      go _ _ (both-stopped u) = (u .point .weights, u .point .fit)
+      go _ _ (both-stopped u) = (u .weights, u .fit)
       go _ _ both-bad = (signs-zeros _ (s .p), signs-zeros _ (s .n))
 
   -- a weight is left zero by both or by none

@@ -1,6 +1,6 @@
 -- Demand 3, proved of the definition of a whole call: refusals look at nothing that turns, and a run that is not refused turns step by step.
 -- Assumes nothing.
-use mathlib.Core.Path.{_≡_, refl, ap}
+use mathlib.Core.Path.{_≡_, refl}
 use mathlib.Core.Bool.{Bool, true, false}
 use mathlib.Core.List.{List}
 use Prim.Native.Nat.{ℕ, _≤_, _<_}
@@ -24,7 +24,7 @@ use Rattle.runs.specs.Run.{State}
 use Rattle.runs.specs.Call.{settingsLegal, Lent, roomy, fitFault, solved, fitted, ended, answer, fitCall}
 use Rattle.runs.specs.declared.Settings.{Settings}
 use Rattle.runs.proofs.Laws.Settings.{penalty-legal}
-use Rattle.signs.specs.Turning.{Turning, TurnedState, Both, both-going, both-stopped, both-bad, SameCall}
+use Rattle.signs.specs.Turning.{Turning, SameRun, Both, both-going, both-stopped, both-bad, SameCall}
 use Rattle.signs.proofs.Laws.Pairs.{with-values}
 use Rattle.signs.proofs.Laws.Preparation.{solved-turned}
 use Rattle.signs.proofs.Laws.Faults.{fault-same}
@@ -46,9 +46,16 @@ alike Dense n p starts rows values values' = refl
 alike Csc n p starts rows values values' = refl
 
 -- ---- the same answer
-ended-same : {c : ℕ → Bool} {t : Bool} (S : Settings) (r r' : Stage State) → Both (TurnedState c t S) r r' → ended S r ≡ ended S r'
+ended-same : {c : ℕ → Bool} {t : Bool} (S : Settings) (r r' : Stage State) → Both (SameRun c t S) r r' → ended S r ≡ ended S r'
 ended-same S _ _ (both-going u) = refl
-ended-same S _ _ (both-stopped u) = ap answered (u .report)
+ended-same S _ _ (both-stopped u) =
+    λ i. answered (record {
+      status = u .status i;
+      violation = u .violation i;
+      iterations = u .iterations i;
+      epochs = u .epochs i;
+      extrapolations = u .extrapolations i;
+    })
 ended-same S _ _ both-bad = refl
 
 -- the columns need to be turned only where the call is not refused
@@ -61,12 +68,12 @@ module _ {c σ : ℕ → Bool} {t : Bool} {s : Shape} {starts rows : List ℕ} {
   -- X' is the other design
   solve : (p : ℕ) (X X' : Design) (other : ℕ → ℕ → Float) → X .p ≡ p → X' ≡ with-values X other
       → ((j k : ℕ) → j < p → k < X .many j → Turned (c j) (X .value j k) (other j k)) → (S .extrapolate ≡ true → (j : ℕ) → c j ≡ false) → Odd (S .penalty) → 1 ≤ X .n → X .n ≤ 65536
-      → Both (TurnedState c t S)
+      → Both (SameRun c t S)
       (solved (record { n = s .n; p = p; X = X; penalty = S .penalty; prepared = prepared X y }) y S)
       (solved (record { n = s .n; p = p; X = X'; penalty = S .penalty; prepared = prepared X' y' }) y' S)
   solve p X X' other ep e h off o some few = rw (e, ← ep) (solved-turned c t X other (S .penalty) targets (rw (← ep) at h) (s .n) o some few S off)
 
-  run-turned : fitFault s starts rows values y S b ≡ none → Both (TurnedState c t S) (fitted s starts rows values y S) (fitted s starts rows values' y' S)
+  run-turned : fitFault s starts rows values y S b ≡ none → Both (SameRun c t S) (fitted s starts rows values y S) (fitted s starts rows values' y' S)
   unfolding fitted
   run-turned e =
       let X = design s starts rows values in

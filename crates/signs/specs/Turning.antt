@@ -15,7 +15,6 @@ use Rattle.designs.specs.Checks.{none}
 use Rattle.designs.specs.declared.Layout.{Layout}
 use Rattle.designs.specs.declared.Layout.the-variants.{Dense, Csc}
 use Rattle.designs.specs.declared.Shape.{Shape}
-use Rattle.runs.specs.Epoch.{Point}
 use Rattle.runs.specs.Run.{State}
 use Rattle.runs.specs.Call.{Lent, fitFault, fitted, reportOf, fitCall}
 use Rattle.runs.specs.declared.Settings.{Settings}
@@ -33,16 +32,18 @@ pub record Turning (c : ℕ → Bool) (t : Bool) (s : Shape) (starts rows : List
   -- "(extrapolation off)": with extrapolation on, no column is turned
   pub off : S .extrapolate ≡ true → (j : ℕ) → c j ≡ false
 
--- "weights and fit turn as they must": weight j where its column or the targets turn, but not where both do; the fit as the targets
-pub record TurnedPoint (c : ℕ → Bool) (t : Bool) (q q' : Point) : Type 0 where
-  pub weights : Signs (λ (j : ℕ). unlike (c j) t) (q .weights) (q' .weights)
-  pub fit : Signs (λ (i : ℕ). t) (q .fit) (q' .fit)
-
--- "same status, counts, violation and working sets": all of these but the sets are the report
-pub record TurnedState (c : ℕ → Bool) (t : Bool) (S : Settings) (s s' : State) : Type 0 where
-  pub point : TurnedPoint c t (s .inner .point) (s' .inner .point)
-  pub report : reportOf S s ≡ reportOf S s'
+-- "same status, counts, violation and working sets, and weights and fit turn as they must", of the states that two runs end with
+pub record SameRun (c : ℕ → Bool) (t : Bool) (S : Settings) (s s' : State) : Type 0 where
+  pub status : reportOf S s .status ≡ reportOf S s' .status
+  pub iterations : reportOf S s .iterations ≡ reportOf S s' .iterations
+  pub epochs : reportOf S s .epochs ≡ reportOf S s' .epochs
+  pub extrapolations : reportOf S s .extrapolations ≡ reportOf S s' .extrapolations
+  pub violation : reportOf S s .violation ≡ reportOf S s' .violation
+  -- of every outer iteration
   pub sets : s .sets ≡ s' .sets
+  -- weight j where its column or the targets turn, but not where both do; the fit as the targets
+  pub weights : Signs (λ (j : ℕ). unlike (c j) t) (s .inner .point .weights) (s' .inner .point .weights)
+  pub fit : Signs (λ (i : ℕ). t) (s .inner .point .fit) (s' .inner .point .fit)
 
 -- two runs that end in the same way, at states that R relates
 pub data Both {A : Type 0} (R : A → A → Type 0) : Stage A → Stage A → Type 0 where
@@ -55,7 +56,7 @@ pub record SameCall (c : ℕ → Bool) (t : Bool) (s : Shape) (starts rows : Lis
   -- "same refusal and place", of 1 to 6; and of 7 too, for the answers are the same
   pub refusal : fitFault s starts rows values y S b ≡ fitFault s starts rows values' y' S b
   pub answer : fitCall s starts rows values y S b ≡ fitCall s starts rows values' y' S b
-  pub run : fitFault s starts rows values y S b ≡ none → Both (TurnedState c t S) (fitted s starts rows values y S) (fitted s starts rows values' y' S)
+  pub run : fitFault s starts rows values y S b ≡ none → Both (SameRun c t S) (fitted s starts rows values y S) (fitted s starts rows values' y' S)
 
 -- ---- the plain way to turn: xs with place k negated where s k is true
 unfoldable pub turned : (ℕ → Bool) → List Float → List Float

@@ -19,9 +19,8 @@ use Rattle.leaves.specs.Elimination.{solveCall}
 use Rattle.designs.specs.Design.{movedAll, extrapolated, squaredError, datafit}
 use Rattle.runs.specs.Epoch.{Point}
 use Rattle.runs.specs.Extrapolation.{keptNow, U, entry, systemRow, system, coefficients, combined, candidate, objectiveOf, objective, allFinite, better, Tried, keeps, chosen, pointOf, fromSolution, extrapolate, due, tried}
-use Rattle.signs.specs.Turning.{TurnedPoint}
 use Rattle.signs.proofs.Laws.Exact.{unlike-none, related, sum-exact, all-same, steps-related, signs-like, signs-put, signs-tab, signs-zeros}
-use Rattle.signs.proofs.Laws.Pairs.{Pair, one, two, moved-turned}
+use Rattle.signs.proofs.Laws.Pairs.{TurnedPoint, Pair, one, two, moved-turned}
 use Rattle.signs.proofs.Laws.Violations.{Within}
 use Rattle.signs.proofs.Laws.Visits.{Points}
 

@@ -11,8 +11,13 @@ use Rattle.doubles.proofs.Laws.Signs.{sum-turned, signs-at, signs-set}
 use Rattle.leaves.specs.Odd.{Odd}
 use Rattle.leaves.specs.declared.penalties.separable.Penalty.{Penalty}
 use Rattle.designs.specs.Design.{Design, dot, squares, gradient, moved}
-use Rattle.runs.specs.Epoch.{Task}
+use Rattle.runs.specs.Epoch.{Task, Point}
 use Rattle.signs.proofs.Laws.Exact.{unlike-back, sum-exact, steps-related}
+
+-- two points of the runs: weight j turned where its column or the targets turn, but not where both do; the fit as the targets
+pub record TurnedPoint (c : ℕ → Bool) (t : Bool) (q q' : Point) : Type 0 where
+  pub weights : Signs (λ (j : ℕ). unlike (c j) t) (q .weights) (q' .weights)
+  pub fit : Signs (λ (i : ℕ). t) (q .fit) (q' .fit)
 
 -- X with other values
 abbrev pub with-values : Design → (ℕ → ℕ → Float) → Design

@@ -27,7 +27,7 @@ use Rattle.designs.specs.Design.{Design, dot, squares, lipschitz, dots, prepare
 use Rattle.runs.specs.Epoch.{Task, constant}
 use Rattle.runs.specs.Call.{usable, usableAt, solved}
 use Rattle.runs.specs.declared.Settings.{Settings}
-use Rattle.signs.specs.Turning.{TurnedState, Both, both-bad}
+use Rattle.signs.specs.Turning.{SameRun, Both, both-bad}
 use Rattle.signs.proofs.Laws.Exact.{related, all-same}
 use Rattle.signs.proofs.Laws.Pairs.{with-values, dot-turned, squares-same, Pair}
 use Rattle.signs.proofs.Laws.Runs.{run-turned}
@@ -123,7 +123,7 @@ module _ (c : ℕ → Bool) (t : Bool) (X : Design) (other : ℕ → ℕ → Flo
       odd = odd;
     }
 
-    pub solved-turned : (S : Settings) → (S .extrapolate ≡ true → (j : ℕ) → c j ≡ false) → Both (TurnedState c t S) (solved first y S) (solved second y' S)
+    pub solved-turned : (S : Settings) → (S .extrapolate ≡ true → (j : ℕ) → c j ≡ false) → Both (SameRun c t S) (solved first y S) (solved second y' S)
     unfolding solved pair
     solved-turned S flat =
-        related (Both (TurnedState c t S)) (all-same _ _ (X .p) usable-same) (λ e. run-turned (pair e) sy S flat) (λ e. both-bad)
+        related (Both (SameRun c t S)) (all-same _ _ (X .p) usable-same) (λ e. run-turned (pair e) sy S flat) (λ e. both-bad)

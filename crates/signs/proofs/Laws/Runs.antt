@@ -17,7 +17,7 @@ use Rattle.runs.specs.Run.{Inner, gained, accelerated, enough, checked, checks,
 use Rattle.runs.specs.Call.{reportOf}
 use Rattle.runs.specs.declared.Settings.{Settings}
 use Rattle.worksets.proofs.Laws.Sets.{workingSet-each}
-use Rattle.signs.specs.Turning.{TurnedState, Both, both-going, both-stopped, both-bad}
+use Rattle.signs.specs.Turning.{SameRun, Both, both-going, both-stopped, both-bad}
 use Rattle.signs.proofs.Laws.Exact.{related, upto-related, then-related, both-map, signs-zeros}
 use Rattle.signs.proofs.Laws.Pairs.{Pair, one, two}
 use Rattle.signs.proofs.Laws.Violations.{Within, all-known, violations-same, worst-same, known-in, worst-in}
@@ -127,15 +127,20 @@ module _ (P : Pair) {y y' : List Float} (sy : Signs (λ (i : ℕ). P .target) y 
     sets = refl;
   }
 
-  pub run-turned : Both (TurnedState (P .turns) (P .target) S) (run (one P) y S) (run (two P) y' S)
+  pub run-turned : Both (SameRun (P .turns) (P .target) S) (run (one P) y S) (run (two P) y' S)
   unfolding run reportOf
   run-turned =
-      both-map (States P) (TurnedState (P .turns) (P .target) S) ended _ _
+      both-map (States P) (SameRun (P .turns) (P .target) S) ended _ _
       (upto-related (States P) _ _ (S .iterations + 1) _ _ start-turned (λ k l. turn-turned k))
     where
-      ended : (s s' : State) → States P s s' → TurnedState (P .turns) (P .target) S s s'
+      ended : (s s' : State) → States P s s' → SameRun (P .turns) (P .target) S s s'
       ended s s' u = record {
-        point = u .inner .points .point;
-        report = rw (u .violation, u .iterations, u .inner .epochs, u .inner .extrapolations);
+        status = rw (u .violation);
+        iterations = u .iterations;
+        epochs = u .inner .epochs;
+        extrapolations = u .inner .extrapolations;
+        violation = u .violation;
         sets = u .sets;
+        weights = u .inner .points .point .weights;
+        fit = u .inner .points .point .fit;
       }

@@ -9,9 +9,8 @@ use Rattle.doubles.proofs.Laws.Compare.{finite-turned}
 use Rattle.doubles.proofs.Laws.Signs.{signs-at}
 use Rattle.doubles.proofs.Laws.Steps.{tab-same}
 use Rattle.runs.specs.Epoch.{Point, gradientOf, violationOf, known, allKnown, violations, worst, knownIn, worstIn}
-use Rattle.signs.specs.Turning.{TurnedPoint}
 use Rattle.signs.proofs.Laws.Exact.{all-same, largest-same}
-use Rattle.signs.proofs.Laws.Pairs.{Pair, one, two, gradient-turned}
+use Rattle.signs.proofs.Laws.Pairs.{TurnedPoint, Pair, one, two, gradient-turned}
 
 -- a set of features of the design
 abbrev pub Within : ℕ → List ℕ → Type 0

@@ -13,9 +13,9 @@ use Rattle.doubles.proofs.Laws.Compare.{finite-turned, eq-turned}
 use Rattle.doubles.proofs.Laws.Signs.{zero-turned, signs-at, signs-set}
 use Rattle.runs.specs.Epoch.{Point, constant, gradientOf, newWeight, movedBy, finiteAt, movedFinite, fine, visited, visit, visits}
 use Rattle.leaves.specs.Penalty.{prox}
-use Rattle.signs.specs.Turning.{TurnedPoint, Both, both-going, both-bad}
+use Rattle.signs.specs.Turning.{Both, both-going, both-bad}
 use Rattle.signs.proofs.Laws.Exact.{related, all-same, upto-related}
-use Rattle.signs.proofs.Laws.Pairs.{Pair, one, two, moved-turned}
+use Rattle.signs.proofs.Laws.Pairs.{TurnedPoint, Pair, one, two, moved-turned}
 use Rattle.signs.proofs.Laws.Violations.{Within, gradient-of}
 
 -- turned points with a weight to each feature
