@@ -10,10 +10,10 @@ extern "C" {
         fit: *const f64, fit_len: usize, grad: *mut f64, grad_len: usize, place: *mut usize,
     ) -> u32;
     fn koyramutey_column_product_dense(
-        n: usize, p: usize, values: *const f64, values_len: usize, column: usize, v: *const f64, v_len: usize, product: *mut f64,
+        n: usize, p: usize, values: *const f64, values_len: usize, column: usize, v: *const f64, v_len: usize, product: *mut f64, place: *mut usize,
     ) -> u32;
     fn koyramutey_column_update_dense(
-        n: usize, p: usize, values: *const f64, values_len: usize, column: usize, difference: f64, fit: *mut f64, fit_len: usize,
+        n: usize, p: usize, values: *const f64, values_len: usize, column: usize, difference: f64, fit: *mut f64, fit_len: usize, place: *mut usize,
     ) -> u32;
 }
 
@@ -43,8 +43,8 @@ fn full_grad_in_rust(n: usize, p: usize, x: &[f64], prepared: &[f64], fit: &[f64
 }
 
 fn product(n: usize, p: usize, x: &[f64], j: usize, v: &[f64]) -> f64 {
-    let mut product = 0.0;
-    let number = unsafe { koyramutey_column_product_dense(n, p, x.as_ptr(), x.len(), j, v.as_ptr(), v.len(), &mut product) };
+    let (mut product, mut place) = (0.0, 0);
+    let number = unsafe { koyramutey_column_product_dense(n, p, x.as_ptr(), x.len(), j, v.as_ptr(), v.len(), &mut product, &mut place) };
     assert_eq!(number, 0);
     product
 }
@@ -58,7 +58,8 @@ fn product_in_rust(n: usize, p: usize, x: &[f64], j: usize, v: &[f64]) -> f64 {
 }
 
 fn update(n: usize, p: usize, x: &[f64], j: usize, d: f64, fit: &mut [f64]) {
-    let number = unsafe { koyramutey_column_update_dense(n, p, x.as_ptr(), x.len(), j, d, fit.as_mut_ptr(), fit.len()) };
+    let mut place = 0;
+    let number = unsafe { koyramutey_column_update_dense(n, p, x.as_ptr(), x.len(), j, d, fit.as_mut_ptr(), fit.len(), &mut place) };
     assert_eq!(number, 0);
 }
 

@@ -2,7 +2,7 @@
 
    A slice is a pointer and then its length; a null pointer with length 0 is an empty slice. Slices do not overlap, and each pointer to a
    number points to one. Each call answers document 01's refusal number, 0 where there is none; a refusal other than 7 changes no buffer.
-   Where a call has `place`, the refusal's place is left there, 0 where there is no refusal. */
+   The refusal's place is left in `place`, 0 where there is no refusal. */
 #ifndef KOYRAMUTEY_H
 #define KOYRAMUTEY_H
 
@@ -65,14 +65,16 @@ uint32_t koyramutey_column_product_dense(
     const double *values, size_t values_len,
     size_t column,
     const double *v, size_t v_len,
-    double *product);
+    double *product,
+    size_t *place);
 
 /* The first n places of fit gain difference times a column of a dense design. Sizes alone are tested (1 and 3), no number. */
 uint32_t koyramutey_column_update_dense(
     size_t n, size_t p,
     const double *values, size_t values_len,
     size_t column, double difference,
-    double *fit, size_t fit_len);
+    double *fit, size_t fit_len,
+    size_t *place);
 
 #ifdef __cplusplus
 }

@@ -60,8 +60,10 @@ fit-csc-tight κs a r r' s s' p q = (coincide (p .0) (q .0), coincide (p .1) (q 
 full-grad-dense-tight : (κs : _) (a : _) (r r' : _) (s s' : _) → full-grad-reads.Post κs a r s → full-grad-reads.Post κs a r' s' → (r ≡ r') × (now (s .1 .1 .1 .1 .1 .0) ≡ now (s' .1 .1 .1 .1 .1 .0)) × (now (s .1 .1 .1 .1 .1 .1 .0) ≡ now (s' .1 .1 .1 .1 .1 .1 .0))
 full-grad-dense-tight κs a r r' s s' p q = (coincide (p .0) (q .0), coincide (p .2) (q .2), coincide (p .1) (q .1))
 
-column-product-dense-tight : (κs : _) (a : _) (r r' : _) (s s' : _) → column-product-reads.Post κs a r s → column-product-reads.Post κs a r' s' → (r ≡ r') × (now (s .1 .1 .1 .1 .1 .0) ≡ now (s' .1 .1 .1 .1 .1 .0))
-column-product-dense-tight κs a r r' s s' p q = (coincide (p .0) (q .0), coincide (p .1) (q .1))
+column-product-dense-tight : (κs : _) (a : _) (r r' : _) (s s' : _) → column-product-reads.Post κs a r s → column-product-reads.Post κs a r' s'
+    → (r ≡ r') × (now (s .1 .1 .1 .1 .1 .1 .0) ≡ now (s' .1 .1 .1 .1 .1 .1 .0)) × (now (s .1 .1 .1 .1 .1 .0) ≡ now (s' .1 .1 .1 .1 .1 .0))
+column-product-dense-tight κs a r r' s s' p q = (coincide (p .0) (q .0), coincide (p .1) (q .1), coincide (p .2) (q .2))
 
-column-update-dense-tight : (κs : _) (a : _) (r r' : _) (s s' : _) → column-update-reads.Post κs a r s → column-update-reads.Post κs a r' s' → (r ≡ r') × (now (s .1 .1 .1 .1 .1 .0) ≡ now (s' .1 .1 .1 .1 .1 .0))
-column-update-dense-tight κs a r r' s s' p q = (coincide (p .0) (q .0), coincide (p .1) (q .1))
+column-update-dense-tight : (κs : _) (a : _) (r r' : _) (s s' : _) → column-update-reads.Post κs a r s → column-update-reads.Post κs a r' s'
+    → (r ≡ r') × (now (s .1 .1 .1 .1 .1 .1 .0) ≡ now (s' .1 .1 .1 .1 .1 .1 .0)) × (now (s .1 .1 .1 .1 .1 .0) ≡ now (s' .1 .1 .1 .1 .1 .0))
+column-update-dense-tight κs a r r' s s' p q = (coincide (p .0) (q .0), coincide (p .1) (q .1), coincide (p .2) (q .2))

@@ -307,15 +307,21 @@ pub extern "C" fn koyramutey_column_product_dense(
     column: usize,
     v: &[f64],
     product: &mut f64,
+    place: &mut usize,
 ) -> u32
     ensures { λ r. ⌜ (r ≡ numberOfFault (kernels.kernelFault n p (now (values .entry)) column (length (now (v .entry)))))
+        × (now (place .exit) ≡ placeOfFault (kernels.kernelFault n p (now (values .entry)) column (length (now (v .entry)))))
         × (now (product .exit) ≡ kernels.productLeft n p (now (values .entry)) column (now (v .entry)) (now (product .entry))) ⌝ }
 {
     let none = [0u32; 0];
     match admit_column(n, p, values, column, v.len()) {
-        Verdict::Refused(r) => r.number,
+        Verdict::Refused(fault) => {
+            *place = fault.place;
+            fault.number
+        }
         Verdict::Fine => {
             *product = column_dot(dense(n, p), &none, &none, values, Feature(column), v);
+            *place = 0;
             0
         }
     }
@@ -330,13 +336,18 @@ pub extern "C" fn koyramutey_column_update_dense(
     column: usize,
     difference: f64,
     fit: &mut [f64],
+    place: &mut usize,
 ) -> u32
     ensures { λ r. ⌜ (r ≡ numberOfFault (kernels.kernelFault n p (now (values .entry)) column (length (now (fit .entry)))))
+        × (now (place .exit) ≡ placeOfFault (kernels.kernelFault n p (now (values .entry)) column (length (now (fit .entry)))))
         × (now (fit .exit) ≡ kernels.updateLeft n p (now (values .entry)) column difference (now (fit .entry))) ⌝ }
 {
     let none = [0u32; 0];
     match admit_column(n, p, values, column, fit.len()) {
-        Verdict::Refused(r) => r.number,
+        Verdict::Refused(fault) => {
+            *place = fault.place;
+            fault.number
+        }
         Verdict::Fine => {
             column_update(
                 dense(n, p),
@@ -347,6 +358,7 @@ pub extern "C" fn koyramutey_column_update_dense(
                 difference,
                 fit,
             );
+            *place = 0;
             0
         }
     }
