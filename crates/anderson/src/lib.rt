@@ -19,8 +19,8 @@ use datafits::inner::value as datafit_value;
 use designs::Shape;
 use leaves::penalties::inner::value as penalty_value;
 use leaves::penalties::separable::Penalty;
-use leaves::utils::helpers::Ending;
-use leaves::utils::helpers::solve_lin_sys;
+use systems::utils::helpers::Ending;
+use systems::utils::helpers::solve_lin_sys;
 
 // The depth K, and the length of a row of what is kept.
 pub struct Kept {

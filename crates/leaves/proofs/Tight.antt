@@ -1,17 +1,13 @@
 -- Any two outcomes that a public promise allows coincide. `Post` is the promise as the check reads it: of the arguments, the result and
 -- what the parameters are at exit. A reading of an enum by cases loses nothing, so it is enough that the readings coincide. Assumes nothing.
-use mathlib.Core.Path.{_≡_, refl, ap}
+use mathlib.Core.Path.{_≡_, ap}
 use lib.Ieee.{Float}
 use Rattle.doubles.proofs.Tight.{coincide}
-use Rattle.leaves.specs.Answer.{Outcome, refused, numberOf, endingOf, Eliminated, solutionOf}
+use Rattle.leaves.specs.Answer.{Outcome, refused, numberOf}
 use Rattle.leaves.specs.declared.Refusal.{Refusal}
 use Rattle.leaves.specs.declared.Number.{Number}
 use Rattle.leaves.specs.declared.Number.the-variants as Number
-use Rattle.leaves.specs.declared.utils.helpers.Ending.{Ending}
-use Rattle.leaves.specs.declared.utils.helpers.Ending.the-variants as Ending
-use Rattle.leaves.specs.declared.utils.helpers.Solution.{Solution}
 use Rattle.leaves.proofs.utils.prox_funcs.soft_thresholding.Reads as soft-reads
-use Rattle.leaves.proofs.utils.helpers.solve_lin_sys.Reads as solve-reads
 use Rattle.leaves.proofs.penalties.separable.value.Reads as value-reads
 use Rattle.leaves.proofs.penalties.separable.prox.Reads as prox-reads
 use Rattle.leaves.proofs.penalties.separable.subdiff_distance.Reads as distance-reads
@@ -20,7 +16,7 @@ use Rattle.leaves.proofs.penalties.separable.subdiff_distance.Reads as 
 pub same-refusal : {a b : Refusal} → a .number ≡ b .number → a .place ≡ b .place → a ≡ b
 same-refusal p q = λ i. record { number = p i; place = q i }
 
-one-refusal : {A : Type 0} (a b : Refusal) → _≡_ {A = Outcome A} (refused (a .number) (a .place)) (refused (b .number) (b .place)) → a ≡ b
+pub one-refusal : {A : Type 0} (a b : Refusal) → _≡_ {A = Outcome A} (refused (a .number) (a .place)) (refused (b .number) (b .place)) → a ≡ b
 one-refusal a b e = same-refusal (cc) (cc)
 
 pub one-number : (a b : Number) → numberOf a ≡ numberOf b → a ≡ b
@@ -29,29 +25,9 @@ one-number (Number.Refused r) (Number.Is y) e = cc
 one-number (Number.Is x) (Number.Refused s) e = cc
 one-number (Number.Is x) (Number.Is y) e = cc
 
-one-ending : (a b : Ending) → endingOf a ≡ endingOf b → a ≡ b
-one-ending (Ending.Refused r) (Ending.Refused s) e = ap Ending.Refused (one-refusal r s e)
-one-ending (Ending.Refused r) Ending.Singular e = cc
-one-ending (Ending.Refused r) Ending.Solved e = cc
-one-ending Ending.Singular (Ending.Refused s) e = cc
-one-ending Ending.Singular Ending.Singular e = refl
-one-ending Ending.Singular Ending.Solved e = cc
-one-ending Ending.Solved (Ending.Refused s) e = cc
-one-ending Ending.Solved Ending.Singular e = cc
-one-ending Ending.Solved Ending.Solved e = refl
-
-one-solution : (a b : Solution) → solutionOf a ≡ solutionOf b → a ≡ b
-one-solution a b e =
-    let p : a .ending ≡ b .ending = one-ending (a .ending) (b .ending) (ap (λ (x : Eliminated). x .ending) e) in
-    let q : a .z ≡ b .z = ap (λ (x : Eliminated). x .z) e in
-    λ i. record { ending = p i; z = q i }
-
 -- ---- the public calls
 soft-tight : (a : _) (r r' : Float) (s : _) → soft-reads.Post tt a r s → soft-reads.Post tt a r' s → r ≡ r'
 soft-tight a r r' s p q = coincide p q
-
-solve-tight : (a : _) (r r' : Solution) (s : _) → solve-reads.Post tt a r s → solve-reads.Post tt a r' s → r ≡ r'
-solve-tight a r r' s p q = one-solution r r' (coincide p q)
 
 value-tight : (κs : _) (a : _) (r r' : Number) (s : _) → value-reads.Post κs a r s → value-reads.Post κs a r' s → r ≡ r'
 value-tight κs a r r' s p q = one-number r r' (coincide p q)

@@ -1,6 +1,5 @@
 -- What a reader believes of the leaves, in document 01's order.
 pub mod Answer
 pub mod Soft
-pub mod Elimination
 pub mod Penalty
 pub mod Odd

@@ -1,4 +1,4 @@
-// The float leaves: the soft threshold, the elimination and the penalties. Modules as in the Rust: utils, penalties/separable.
+// The float leaves: the soft threshold and the penalties. Modules as in the Rust: utils/prox_funcs, penalties/separable.
 pub mod penalties;
 pub mod utils;
 

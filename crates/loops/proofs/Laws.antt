@@ -1,6 +1,4 @@
--- Laws on the loops' definitions.
-pub mod Ready
-pub mod Epochs
+-- Laws on the outer loop's definitions.
 pub mod Reached
 pub mod Turns
 pub mod Prepared

@@ -10,7 +10,7 @@ use Rattle.doubles.specs.Buffer.{put}
 use Rattle.doubles.specs.Steps.{steps, upward, downward, Stage, going, stopped, bad}
 use Rattle.leaves.specs.Soft.{soft}
 use Rattle.leaves.specs.Penalty.{sumAbs, value, proxL1, prox, excess, violationL1, violation}
-use Rattle.leaves.specs.Elimination.{reduced, cleared, clearedBelow, echelon, clearedAbove, backSubstituted, regular, readOff, eliminated, solution, solveCall}
+use Rattle.systems.specs.Elimination.{reduced, cleared, clearedBelow, echelon, clearedAbove, backSubstituted, regular, readOff, eliminated, solution, solveCall}
 use Rattle.leaves.specs.declared.penalties.separable.Penalty.the-variants.{L1}
 use Rattle.designs.specs.Design.{dense, laid, dot, squares, lipschitz, dots, prepared, gradient, squaredError, datafit, moved, movedAll, extrapolated}
 use Rattle.designs.specs.declared.Layout.the-variants.{Dense}

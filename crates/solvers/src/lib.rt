@@ -1,16 +1,15 @@
 // Coordinate descent over working sets: the whole call. It tests its input first and refuses with document 01's number and place; refused with
 // 1 to 6, it changes no lent buffer, and with 7 it leaves the room it used at zero.
 ghost use mathlib.Core.Path.{_≡_};
-ghost use Prim.Native.Nat.{ℕ, _≤_};
+ghost use Prim.Native.Nat.{_≤_};
 ghost use mathlib.Core.Bool.{true};
 ghost use lib.Ieee.{le};
 ghost use lib.ListN.{length};
 ghost use Rattle.doubles.specs.Num as num;
 ghost use Rattle.doubles.specs.Steps.{tab};
-ghost use Rattle.leaves.specs.Answer.{refused as refused', answered};
+ghost use Rattle.leaves.specs.Answer.{refused as refused'};
 ghost use Rattle.runs.specs.Call as call;
-ghost use Rattle.loops.specs.Reading.{Ready};
-ghost use Rattle.loops.specs.Reading as here;
+ghost use Rattle.inner_loops.specs.Reading.{Ready};
 ghost use Rattle.solvers.specs.Buffers.{lent};
 use columns::clear;
 use designs::Shape;

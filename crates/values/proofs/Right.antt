@@ -6,7 +6,7 @@ use Rattle.doubles.specs.Num.{_and_, _or_, abs, signum, finite, larger}
 use Rattle.doubles.specs.Steps.{steps, upward, downward}
 use Rattle.leaves.specs.Soft.{soft}
 use Rattle.leaves.specs.Penalty.{proxL1, proxL1PlusL2, proxMcp, prox, excess, violationL1, violation}
-use Rattle.leaves.specs.Elimination.{reduced, cleared, clearedBelow, echelon, clearedAbove, backSubstituted, regular, readOff, eliminated, solution, solveCall}
+use Rattle.systems.specs.Elimination.{reduced, cleared, clearedBelow, echelon, clearedAbove, backSubstituted, regular, readOff, eliminated, solution, solveCall}
 use Rattle.designs.specs.Design.{dense, laid, dot, squares, lipschitz, dots, prepared, gradient, squaredError, datafit, moved}
 use Rattle.runs.specs.WorkingSet.{support, size, insert, others, workingSet}
 use Rattle.runs.specs.Epoch.{gradientOf, violationOf, known, allKnown, violations, worst, knownIn, worstIn, newWeight, movedBy, finiteAt, movedFinite, fine, visited, visit, visits}

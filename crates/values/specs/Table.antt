@@ -7,10 +7,11 @@ use lib.Dec.{eqb}
 use lib.Ieee.{Float, binary64, toBits, neg}
 use Rattle.doubles.specs.Num.{_⊘_, #0, #1, #2, count, _and_}
 use Rattle.doubles.specs.Steps.{tab, Stage, going, stopped, bad}
-use Rattle.leaves.specs.Answer.{Outcome, refused, answered, Ended, singular, solved, Eliminated}
+use Rattle.leaves.specs.Answer.{Outcome, refused, answered}
+use Rattle.systems.specs.Answer.{Ended, singular, solved, Eliminated}
 use Rattle.leaves.specs.Soft.{soft}
 use Rattle.leaves.specs.Penalty.{prox}
-use Rattle.leaves.specs.Elimination.{solveCall}
+use Rattle.systems.specs.Elimination.{solveCall}
 use Rattle.leaves.specs.declared.penalties.separable.Penalty.the-variants.{L1, L1PlusL2, MCP}
 use Rattle.designs.specs.Design.{datafit}
 use Rattle.designs.specs.declared.Layout.the-variants.{Dense}

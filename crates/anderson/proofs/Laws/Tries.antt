@@ -9,11 +9,12 @@ use borrow.Author.Tests.{eq-eqb, ne-eqb, le-leb, lt-leb}
 use Rattle.doubles.specs.Num.{#0, _and_}
 use Rattle.doubles.specs.Steps.{steps, tab}
 use Rattle.doubles.proofs.Laws.Steps.{steps-all}
-use Rattle.leaves.specs.Answer.{solutionOf, endingOf, Outcome, Ended, answered, solved, singular}
-use Rattle.leaves.specs.Elimination.{solveCall}
-use Rattle.leaves.specs.declared.utils.helpers.Solution.{Solution}
-use Rattle.leaves.specs.declared.utils.helpers.Ending.{Ending}
-use Rattle.leaves.specs.declared.utils.helpers.Ending.the-variants as Ending
+use Rattle.leaves.specs.Answer.{Outcome, answered}
+use Rattle.systems.specs.Answer.{solutionOf, endingOf, Ended, solved, singular}
+use Rattle.systems.specs.Elimination.{solveCall}
+use Rattle.systems.specs.declared.utils.helpers.Solution.{Solution}
+use Rattle.systems.specs.declared.utils.helpers.Ending.{Ending}
+use Rattle.systems.specs.declared.utils.helpers.Ending.the-variants as Ending
 use Rattle.leaves.specs.declared.Refusal.{Refusal}
 use Rattle.leaves.specs.declared.penalties.separable.Penalty.{Penalty}
 use Rattle.designs.specs.declared.Shape.{Shape}

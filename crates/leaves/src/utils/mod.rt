@@ -1,2 +1,1 @@
-pub mod helpers;
 pub mod prox_funcs;

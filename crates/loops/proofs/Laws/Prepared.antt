@@ -18,8 +18,9 @@ use Rattle.runs.specs.Call.{usable, solved, fitted}
 use Rattle.runs.specs.declared.Settings.{Settings}
 use Rattle.anderson.specs.Places.{keptIn}
 use Rattle.anderson.proofs.Laws.Scratch.{old-behind, room-split}
-use Rattle.loops.specs.Reading.{taskOf, keptHere, nothingKept, Ready}
-use Rattle.loops.proofs.Laws.Ready.{room-twice, room-on}
+use Rattle.inner_loops.specs.Reading.{taskOf, keptHere, Ready}
+use Rattle.loops.specs.Reading.{nothingKept}
+use Rattle.inner_loops.proofs.Laws.Ready.{room-twice, room-on}
 use Rattle.doubles.proofs.Laws.Parts.{same-drop, same-take}
 
 -- z is the scratch cleared, q what came back in its first 2p places

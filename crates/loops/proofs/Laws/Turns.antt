@@ -22,11 +22,12 @@ use Rattle.runs.specs.declared.Settings.{Settings}
 use Rattle.anderson.specs.Places.{keptIn, pointOf}
 use Rattle.worksets.proofs.Laws.Sets.{size-most, length-workingSet, workingSet-each}
 use Rattle.epochs.specs.Reading.{Measured, measured}
-use Rattle.loops.specs.Reading.{taskOf, keptHere, innerOf, innerStage, countsOf, stateOf, outerStage, setsOf, shows, violationsIn, Features, Totalled, Grown}
-use Rattle.loops.specs.declared.Counts.{Counts}
+use Rattle.inner_loops.specs.Reading.{taskOf, keptHere, innerOf, innerStage, countsOf, Features}
+use Rattle.loops.specs.Reading.{stateOf, outerStage, setsOf, shows, violationsIn, Totalled, Grown}
+use Rattle.inner_loops.specs.declared.Counts.{Counts}
 use Rattle.loops.specs.declared.Totals.{Totals}
-use Rattle.loops.specs.declared.InnerStep.{InnerStep}
-use Rattle.loops.specs.declared.InnerStep.the-variants as Inner'
+use Rattle.inner_loops.specs.declared.InnerStep.{InnerStep}
+use Rattle.inner_loops.specs.declared.InnerStep.the-variants as Inner'
 use Rattle.loops.specs.declared.OuterStep.{OuterStep}
 use Rattle.loops.specs.declared.OuterStep.the-variants as Outer'
 use Rattle.doubles.proofs.Laws.Parts.{part-at, part-behind}

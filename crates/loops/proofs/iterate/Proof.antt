@@ -3,11 +3,11 @@ use mathlib.Core.Path.{refl, sym, ap, _∙_}
 use native.Mathlib.Omega.{arith}
 use native.Mathlib.Nat.{le-of-eq, le-trans}
 use lib.Seq.{length-take-le}
-use Rattle.loops.proofs.Laws.Ready.{room-for}
+use Rattle.inner_loops.proofs.Laws.Ready.{room-for}
 use Rattle.loops.proofs.Laws.Turns.{start-most, set-built, set-most, set-features, part-violations, set-chosen, shown-going, shown-stopped, shown-bad, grown-by, grown-none}
 use Rattle.doubles.proofs.Laws.Parts.{part-long}
-use Rattle.loops.specs.Reading.{countsOf}
-use Rattle.loops.specs.declared.InnerStep.{InnerStep}
+use Rattle.inner_loops.specs.Reading.{countsOf}
+use Rattle.inner_loops.specs.declared.InnerStep.{InnerStep}
 use denote.Ref.{now}
 use borrow.Author.Needs.{needs}
 use Rattle.loops.proofs.iterate.Statement.{statement}

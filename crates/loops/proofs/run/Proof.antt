@@ -5,7 +5,7 @@ use lib.ListN.{length}
 use native.Mathlib.Omega.{arith}
 use borrow.Author.Needs.{needs}
 use Rattle.runs.proofs.Laws.Settings.{few-iterations}
-use Rattle.loops.proofs.Laws.Ready.{ready-still}
+use Rattle.inner_loops.proofs.Laws.Ready.{ready-still}
 use Rattle.loops.proofs.Laws.Reached.{Turned, turned-none, turned-more, turned-stopped, turned-bad, turned-all}
 use Rattle.loops.proofs.run.Statement.{statement}
 use Rattle.loops.proofs.run.Tie as tie

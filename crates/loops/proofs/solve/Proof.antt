@@ -2,7 +2,7 @@
 use mathlib.Core.Path.{sym, _∙_}
 use native.Mathlib.Nat.{le-of-eq}
 use lib.Seq.{length-take-le}
-use Rattle.loops.proofs.Laws.Ready.{ready-still}
+use Rattle.inner_loops.proofs.Laws.Ready.{ready-still}
 use Rattle.loops.proofs.Laws.Prepared.{cleared-room, prepared-long, prepared-room, prepared-kept, solved-bad, solved-run}
 use borrow.Author.Needs.{needs}
 use Rattle.loops.proofs.solve.Statement.{statement}

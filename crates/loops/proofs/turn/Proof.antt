@@ -1,7 +1,7 @@
 -- `turn`: the violations of all features are taken; the run ends, or an iteration follows. Assumes nothing.
 use mathlib.Core.Path.{refl, sym, ap, _∙_}
 use Rattle.runs.proofs.Laws.Settings.{few-iterations}
-use Rattle.loops.proofs.Laws.Ready.{room-for, ready-still}
+use Rattle.inner_loops.proofs.Laws.Ready.{room-for, ready-still}
 use Rattle.loops.proofs.Laws.Turns.{violations-read, kept-measured, turn-bad, found-scratch, turn-stops, turn-goes-on, not-last, totalled-more, totalled-most, grown-none, grown-same}
 use Rattle.epochs.specs.Reading.{measuredOf}
 use Rattle.epochs.specs.declared.Worst.{Worst}

@@ -14,8 +14,9 @@ use Rattle.doubles.proofs.Laws.Turned.{turned-sub}
 use Rattle.doubles.proofs.Laws.Compare.{finite-turned}
 use Rattle.doubles.proofs.Laws.Signs.{turned-times, sum-turned, signs-at, signs-set, signs-length}
 use Rattle.doubles.proofs.Laws.Steps.{tab-same, length-tab}
-use Rattle.leaves.specs.Answer.{Outcome, refused, answered, Ended, singular, solved}
-use Rattle.leaves.specs.Elimination.{solveCall}
+use Rattle.leaves.specs.Answer.{Outcome, refused, answered}
+use Rattle.systems.specs.Answer.{Ended, singular, solved}
+use Rattle.systems.specs.Elimination.{solveCall}
 use Rattle.designs.specs.Design.{movedAll, extrapolated, squaredError, datafit}
 use Rattle.runs.specs.Epoch.{Point}
 use Rattle.runs.specs.Extrapolation.{keptNow, U, entry, systemRow, system, coefficients, combined, candidate, objectiveOf, objective, allFinite, better, Tried, keeps, chosen, pointOf, fromSolution, extrapolate, due, tried}

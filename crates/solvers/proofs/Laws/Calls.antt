@@ -24,7 +24,8 @@ use Rattle.runs.specs.Run.{State}
 use Rattle.runs.specs.Call.{settingsLegal, scratchRoom, Lent, roomy, fitFault, fitted, reportOf, ended, zeros, weightsOf, fitEntries, buffers, fitCall, fitLeft}
 use Rattle.runs.specs.declared.Settings.{Settings}
 use Rattle.runs.specs.declared.Report.{Report}
-use Rattle.loops.specs.Reading.{outerStage, setsOf, Ready}
+use Rattle.inner_loops.specs.Reading.{Ready}
+use Rattle.loops.specs.Reading.{outerStage, setsOf}
 use Rattle.loops.specs.declared.Totals.{Totals}
 use Rattle.loops.specs.declared.OuterStep.{OuterStep}
 use Rattle.loops.specs.declared.OuterStep.the-variants as Outer'

@@ -1,0 +1,4 @@
+-- Laws on the inner loops' definitions.
+pub mod Ready
+pub mod Epochs
+pub mod Reached

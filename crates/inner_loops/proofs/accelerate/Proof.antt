@@ -1,0 +1,56 @@
+-- `accelerate`: with extrapolation on, what the step left; else the point stays. Assumes nothing.
+use Rattle.inner_loops.proofs.Laws.Ready.{step-ready}
+use Rattle.inner_loops.proofs.Laws.Epochs.{taken-few, accelerated-on, accelerated-off, twice-of-thrice}
+use mathlib.Core.Path.{refl}
+use native.Mathlib.Omega.{arith}
+use native.Mathlib.Nat.{le-refl}
+use denote.Ref.{now}
+use borrow.Author.Needs.{needs}
+use Rattle.inner_loops.proofs.accelerate.Statement.{statement}
+use Rattle.inner_loops.proofs.accelerate.Tie as tie
+
+anderson-accel-requires : tie.Need-anderson-accel-requires
+anderson-accel-requires c κs = step-ready (c .before .before .before .before .before .before .before .before .before .before .before .before .pre .0) (c .before .before .before .before .before .before .before .before .before .before .before .before .pre .1) (c .before .before .before .if1 .taken)
+
+add-t22 : tie.Need-add-t22
+add-t22 c = search needs
+
+add-t23 : tie.Need-add-t23
+add-t23 c = let h = taken-few _ _ _ _ _ _ _ _ _ _ (c .before .before .before .before .before .before .before .before .anderson-accel .ensures .0) in let q = c .before .before .before .before .before .before .before .before .before .before .before .before .before .before .before .before .before .before .before .before .before .pre .2 .extrapolations in omega arith
+
+same-length : tie.Need-same-length
+same-length c = search needs
+
+same-length-2 : tie.Need-same-length-2
+same-length-2 c = search needs
+
+same-length-3 : tie.Need-same-length-3
+same-length-3 c = search needs
+
+returns : tie.Need-returns
+returns c = let h = taken-few _ _ _ _ _ _ _ _ _ _ (c .before .before .before .before .before .before .before .before .anderson-accel .ensures .0) in (
+  accelerated-on _ _ _ _ _ _ _ _ _ _ _ _ _ _ (c .before .before .before .before .before .before .before .before .before .before .before .before .if1 .taken) (c .before .before .before .before .before .before .before .before .anderson-accel .ensures .0) (c .before .before .before .before .before .before .before .before .anderson-accel .ensures .1),
+  twice-of-thrice (c .before .before .before .before .before .before .before .before .before .before .before .before .before .before .before .before .before .before .before .before .before .args .shape .p) (c .before .before .before .before .before .before .before .before .anderson-accel .last .1 .1 .1 .1 .1 .1 .1 .1 .1 .1 .1 .0) (now (c .before .before .before .before .before .before .before .before .before .before .before .before .before .before .before .before .before .before .before .before .before .args .scratch)) (c .before .before .before .before .before .before .before .before .anderson-accel .ensures .2),
+  le-refl _,
+  omega arith,
+)
+
+add-t24 : tie.Need-add-t24
+add-t24 c = search needs
+
+returns-2 : tie.Need-returns-2
+returns-2 c = (accelerated-off _ _ _ _ _ _ _ _ _ _ (c .before .if1 .left), refl, le-refl _, omega arith)
+
+pub accelerate-spec : {M : Type 1} → statement M
+accelerate-spec =
+    tie.close
+    (tie.spec
+    anderson-accel-requires
+    add-t22
+    add-t23
+    same-length
+    same-length-2
+    same-length-3
+    returns
+    add-t24
+    returns-2)

@@ -1,0 +1,247 @@
+// The epochs of one working set, over a design, settings and buffers already tested. Of the scratch, places 0 to 2p hold the constants and
+// X'y, 2p to 3p the violations, and the rest is the extrapolation's.
+ghost use mathlib.Core.Path.{_≡_};
+ghost use mathlib.Core.List.{List};
+ghost use Prim.Native.Nat.{ℕ, _+_, _≤_, _<_};
+ghost use lib.Ieee.{le, lt};
+ghost use lib.ListN.{length, getD, take};
+ghost use Rattle.doubles.specs.Num as num;
+ghost use Rattle.designs.specs.Sound.{Whole};
+ghost use Rattle.runs.specs.Epoch as ep;
+ghost use Rattle.runs.specs.Run as def;
+ghost use Rattle.anderson.specs.Places.{pointOf};
+ghost use Rattle.inner_loops.specs.Reading as here;
+use anderson::anderson_accel;
+use designs::Shape;
+use epochs::Worst;
+use epochs::cd_epoch;
+use epochs::ws_violation;
+use runs::Settings;
+
+// What is counted within the working sets.
+pub struct Counts {
+    pub epochs: usize,
+    pub extrapolations: usize,
+}
+
+// How an epoch ends: the next one may begin, this one was the last, or a number was not finite.
+pub enum InnerStep {
+    Going(Counts),
+    Stopped(Counts),
+    Bad,
+}
+
+// Whether the epochs of a working set may stop at its violation v.
+fn is_enough(everything: bool, tolerance: f64, outer: f64, v: f64) -> bool
+    ensures { λ r. ⌜ r ≡ num.pick everything (le v tolerance) (lt v (num._⊗_ def.#0·3 outer)) ⌝ }
+{
+    if everything {
+        return v <= tolerance;
+    }
+    v < 0.3 * outer
+}
+
+// The check of a working set's largest violation.
+fn check(
+    shape: Shape,
+    starts: &[u32],
+    rows: &[u32],
+    values: &[f64],
+    settings: Settings,
+    outer: f64,
+    prepared: &[f64],
+    ws: &[u32],
+    w: &[f64],
+    fit: &[f64],
+    counts: Counts,
+) -> InnerStep
+    requires { ⌜ ((k : ℕ) → k < length (now ws) → getD (now ws) k 0 < shape .p) × (shape .n ≤ 65536) × (length (now w) ≡ shape .p) × (length (now prepared) ≡ shape .p + shape .p) × Whole shape (now starts) (now rows) (now values) × (length (now fit) ≡ shape .n) ⌝ }
+    ensures { λ r. ⌜ ((kept : List _) → here.innerStage r (now (w .entry)) (now (fit .entry)) kept ≡ def.checked (ep.task shape (now (starts .entry)) (now (rows .entry)) (now (values .entry)) (settings .penalty) (now (prepared .entry))) settings (now (ws .entry)) outer (here.innerOf counts (now (w .entry)) (now (fit .entry)) kept))
+        × (here.countsOf r counts ≡ counts) ⌝ }
+{
+    let penalty = settings.penalty;
+    match ws_violation(shape, starts, rows, values, penalty, prepared, ws, w, fit) {
+        Worst::Bad => InnerStep::Bad,
+        Worst::Is(v) => {
+            if is_enough(ws.len() == shape.p, settings.tolerance, outer, v) {
+                return InnerStep::Stopped(counts);
+            }
+            InnerStep::Going(counts)
+        }
+    }
+}
+
+// Epochs 10, 20, .. are checked.
+fn is_check_due(e: usize) -> bool
+    ensures { λ r. ⌜ r ≡ def.checks e ⌝ }
+{
+    if e == 0 {
+        return false;
+    }
+    e % 10 == 0
+}
+
+// The epoch is counted; with extrapolation on, the weights are kept and the step is tried.
+fn accelerate(
+    shape: Shape,
+    starts: &[u32],
+    rows: &[u32],
+    values: &[f64],
+    y: &[f64],
+    settings: Settings,
+    e: usize,
+    ws: &[u32],
+    w: &mut [f64],
+    fit: &mut [f64],
+    scratch: &mut [f64],
+    counts: Counts,
+) -> Counts
+    requires { ⌜ here.Ready shape (now starts) (now rows) (now values) (now y) settings (now w) (now fit) (now scratch) × here.Features shape (now ws) × here.Counted 1000000000 counts ⌝ }
+    ensures { λ r. ⌜ (here.innerOf r (now (w .exit)) (now (fit .exit)) (here.keptHere shape settings (now (scratch .exit))) ≡ def.accelerated (here.taskOf shape (now (starts .entry)) (now (rows .entry)) (now (values .entry)) settings (now (scratch .entry))) (now (y .entry)) settings (now (ws .entry)) e (here.innerOf counts (now (w .entry)) (now (fit .entry)) (here.keptHere shape settings (now (scratch .entry)))) (pointOf (now (w .entry)) (now (fit .entry))))
+        × (take (shape .p + shape .p) (now (scratch .exit)) ≡ take (shape .p + shape .p) (now (scratch .entry)))
+        × (r .epochs ≤ counts .epochs + 1)
+        × (r .extrapolations ≤ counts .extrapolations + 1) ⌝ }
+{
+    let penalty = settings.penalty;
+    if settings.extrapolate {
+        let taken = anderson_accel(
+            shape,
+            starts,
+            rows,
+            values,
+            y,
+            penalty,
+            settings.depth,
+            e,
+            ws,
+            w,
+            fit,
+            scratch,
+        );
+        return Counts {
+            epochs: counts.epochs + 1,
+            extrapolations: counts.extrapolations + taken,
+        };
+    }
+    Counts {
+        epochs: counts.epochs + 1,
+        extrapolations: counts.extrapolations,
+    }
+}
+
+// Epoch e: the visits, the extrapolation, the check.
+fn run_epoch(
+    shape: Shape,
+    starts: &[u32],
+    rows: &[u32],
+    values: &[f64],
+    y: &[f64],
+    settings: Settings,
+    outer: f64,
+    e: usize,
+    ws: &[u32],
+    w: &mut [f64],
+    fit: &mut [f64],
+    scratch: &mut [f64],
+    counts: Counts,
+) -> InnerStep
+    requires { ⌜ here.Ready shape (now starts) (now rows) (now values) (now y) settings (now w) (now fit) (now scratch) × here.Features shape (now ws) × here.Counted 1000000000 counts ⌝ }
+    ensures { λ r. ⌜ (here.innerStage r (now (w .exit)) (now (fit .exit)) (here.keptHere shape settings (now (scratch .exit))) ≡ def.epoch (here.taskOf shape (now (starts .entry)) (now (rows .entry)) (now (values .entry)) settings (now (scratch .entry))) (now (y .entry)) settings (now (ws .entry)) outer e (here.innerOf counts (now (w .entry)) (now (fit .entry)) (here.keptHere shape settings (now (scratch .entry)))))
+        × (take (shape .p + shape .p) (now (scratch .exit)) ≡ take (shape .p + shape .p) (now (scratch .entry)))
+        × (here.countsOf r counts .epochs ≤ counts .epochs + 1)
+        × (here.countsOf r counts .extrapolations ≤ counts .extrapolations + 1) ⌝ }
+{
+    let twice = shape.p + shape.p;
+    let penalty = settings.penalty;
+    if cd_epoch(
+        shape,
+        starts,
+        rows,
+        values,
+        penalty,
+        &scratch[..twice],
+        ws,
+        w,
+        fit,
+    ) {} else {
+        return InnerStep::Bad;
+    }
+    let after = accelerate(
+        shape,
+        starts,
+        rows,
+        values,
+        y,
+        settings,
+        e,
+        ws,
+        w,
+        fit,
+        scratch,
+        counts,
+    );
+    if is_check_due(e) {
+        return check(
+            shape,
+            starts,
+            rows,
+            values,
+            settings,
+            outer,
+            &scratch[..twice],
+            ws,
+            w,
+            fit,
+            after,
+        );
+    }
+    InnerStep::Going(after)
+}
+
+// The epochs of one working set.
+pub fn run_epochs(
+    shape: Shape,
+    starts: &[u32],
+    rows: &[u32],
+    values: &[f64],
+    y: &[f64],
+    settings: Settings,
+    outer: f64,
+    ws: &[u32],
+    w: &mut [f64],
+    fit: &mut [f64],
+    scratch: &mut [f64],
+    from: Counts,
+) -> InnerStep
+    requires { ⌜ here.Ready shape (now starts) (now rows) (now values) (now y) settings (now w) (now fit) (now scratch) × here.Features shape (now ws) × here.Counted 100000000 from ⌝ }
+    ensures { λ r. ⌜ (here.innerStage r (now (w .exit)) (now (fit .exit)) (here.keptHere shape settings (now (scratch .exit))) ≡ def.epochs (here.taskOf shape (now (starts .entry)) (now (rows .entry)) (now (values .entry)) settings (now (scratch .entry))) (now (y .entry)) settings (now (ws .entry)) outer (here.innerOf from (now (w .entry)) (now (fit .entry)) (here.keptHere shape settings (now (scratch .entry)))))
+        × (take (shape .p + shape .p) (now (scratch .exit)) ≡ take (shape .p + shape .p) (now (scratch .entry)))
+        × (here.countsOf r from .epochs ≤ from .epochs + 100000)
+        × (here.countsOf r from .extrapolations ≤ from .extrapolations + 100000) ⌝ }
+{
+    let mut counts = from;
+    let mut e = 0;
+    while e < settings.epochs {
+        match run_epoch(
+            shape,
+            starts,
+            rows,
+            values,
+            y,
+            settings,
+            outer,
+            e,
+            ws,
+            w,
+            fit,
+            scratch,
+            counts,
+        ) {
+            InnerStep::Going(c) => counts = c,
+            InnerStep::Stopped(c) => return InnerStep::Stopped(c),
+            InnerStep::Bad => return InnerStep::Bad,
+        }
+        e += 1;
+    }
+    InnerStep::Going(counts)
+}

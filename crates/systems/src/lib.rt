@@ -1,0 +1,2 @@
+// Linear systems by elimination. Modules as in the Rust: utils/helpers.
+pub mod utils;
