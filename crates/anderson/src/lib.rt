@@ -15,12 +15,12 @@ ghost use Rattle.anderson.specs.Places as places;
 use columns::all_finite;
 use columns::clear;
 use columns::extrapolated_fit;
-use datafits::inner::value as datafit_value;
 use designs::Shape;
 use leaves::penalties::inner::value as penalty_value;
 use leaves::penalties::separable::Penalty;
 use leaves::utils::helpers::Ending;
 use leaves::utils::helpers::solve_lin_sys;
+use quadratic::value as datafit_value;
 
 // The depth K, and the length of a row of what is kept.
 pub struct Kept {
