@@ -15,10 +15,10 @@ ghost use Rattle.anderson.specs.Places as places;
 use columns::all_finite;
 use columns::clear;
 use columns::extrapolated_fit;
-use datafits::inner::value as datafit_value;
 use designs::Shape;
 use leaves::penalties::inner::value as penalty_value;
 use leaves::penalties::separable::Penalty;
+use quadratic::value as datafit_value;
 use systems::utils::helpers::Ending;
 use systems::utils::helpers::solve_lin_sys;
 

@@ -1,3 +1,3 @@
--- What belongs to no one function: laws on what follows a fault, and how tight the promises are.
+-- What belongs to no one function: laws on the tests, and how tight the promises are.
 pub mod Laws
 pub mod Tight

@@ -9,21 +9,10 @@ use lib.Ieee.{Float}
 use Rattle.doubles.specs.Num.{at, _and_}
 use Rattle.doubles.specs.Steps.{all}
 use Rattle.doubles.specs.Buffer.{put}
-use Rattle.leaves.specs.Answer.{Outcome, refused, answered}
+use Rattle.leaves.specs.Answer.{Outcome}
 use Rattle.designs.specs.Design.{design, prepared, gradient, fullGradient, datafit, alphaMax, dots, moved, extrapolated}
-use Rattle.designs.specs.Checks.{Fault, none, fault, unless, numbers, admitted}
+use Rattle.designs.specs.Checks.{Fault, unless, numbers, admitted, after, left}
 use Rattle.designs.specs.declared.Shape.{Shape}
-use Rattle.designs.specs.declared.Layout.the-variants.{Dense, Csc}
-
--- ---- what follows a fault, or none
-abbrev pub after : {A : Type 0} → Fault → A → Outcome A
-after none a = answered a
-after (fault number place) a = refused number place
-
--- "Refusals 1 to 6 .. change no lent buffer"
-abbrev pub left : {A : Type 0} → Fault → A → A → A
-left none new old = new
-left (fault number place) new old = old
 
 -- room for 2p prepared numbers
 abbrev pub roomTwice : ℕ → List Float → Bool
@@ -32,9 +21,6 @@ roomTwice p l = leb (p + p) (length l)
 -- the first n of a list
 abbrev pub first : ℕ → List Float → List Float
 first n l = take n l
-
-abbrev pub nothing : List ℕ
-nothing = []
 
 -- ---- initialize: constants and X'y
 unfoldable pub initializeFault : Shape → List ℕ → List ℕ → List Float → List Float → List Float → Fault
@@ -90,12 +76,6 @@ extrapolatedFit s starts rows values ws w fit =
     left (extrapolatedFault s starts rows values ws w fit) (put fit 0 (extrapolated (design s starts rows values) ws (first (s .p) w))) fit
 
 -- ---- compute_alpha_max and compute_alpha_max_sparse
-abbrev pub denseShape : ℕ → ℕ → Shape
-denseShape n p = record { layout = Dense; n = n; p = p }
-
-abbrev pub cscShape : ℕ → ℕ → Shape
-cscShape n p = record { layout = Csc; n = n; p = p }
-
 unfoldable pub alphaMaxFault : Shape → List ℕ → List ℕ → List Float → List Float → List Float → Fault
 alphaMaxFault s starts rows values y buf = admitted s starts rows values y (eqb (length y) (s .n)) (leb (s .p) (length buf))
 

@@ -3,6 +3,7 @@
 ghost use mathlib.Core.Path.{_≡_};
 ghost use lib.ListN.{length};
 ghost use Rattle.leaves.specs.Answer.{numberOf};
+ghost use Rattle.designs.specs.Design as def;
 ghost use Rattle.designs.specs.Checks.{verdictOf};
 ghost use Rattle.datafits.specs.Calls as calls;
 use designs::Feature;
@@ -33,7 +34,7 @@ pub fn initialize(
     match admit(shape, starts, rows, values, y, fits, room) {
         Verdict::Refused(r) => Verdict::Refused(r),
         Verdict::Fine => {
-            inner::initialize(shape, starts, rows, values, y, prepared);
+            quadratic::initialize(shape, starts, rows, values, y, prepared);
             Verdict::Fine
         }
     }
@@ -55,7 +56,7 @@ pub fn gradient_j(
     let room = both(inner::room_twice(shape.p, prepared), shape.n <= fit.len());
     match admit(shape, starts, rows, values, &values[..0], fits, room) {
         Verdict::Refused(r) => Number::Refused(r),
-        Verdict::Fine => Number::Is(inner::gradient_j(
+        Verdict::Fine => Number::Is(quadratic::gradient_j(
             shape,
             starts,
             rows,
@@ -85,7 +86,7 @@ pub fn full_grad(
     match admit(shape, starts, rows, values, &values[..0], true, room) {
         Verdict::Refused(r) => Verdict::Refused(r),
         Verdict::Fine => {
-            inner::full_grad(shape, starts, rows, values, prepared, fit, grad);
+            quadratic::full_grad(shape, starts, rows, values, prepared, fit, grad);
             Verdict::Fine
         }
     }
@@ -107,7 +108,7 @@ pub fn value(y: &[f64], fit: &[f64]) -> Number
     }
     match designs::checks::check_numbers(n, &y[..0], y) {
         Verdict::Refused(r) => Number::Refused(r),
-        Verdict::Fine => Number::Is(inner::value(y, fit)),
+        Verdict::Fine => Number::Is(quadratic::value(y, fit)),
     }
 }
 
@@ -162,7 +163,7 @@ pub fn compute_extrapolated_fit(
     match admit(shape, starts, rows, values, &values[..0], fits, room) {
         Verdict::Refused(r) => Verdict::Refused(r),
         Verdict::Fine => {
-            inner::compute_extrapolated_fit(shape, starts, rows, values, ws, w, fit);
+            quadratic::compute_extrapolated_fit(shape, starts, rows, values, ws, w, fit);
             Verdict::Fine
         }
     }
@@ -170,8 +171,8 @@ pub fn compute_extrapolated_fit(
 
 // The smallest alpha for which no weight of a dense design leaves zero; X'y is left in the first p places of a lent buffer.
 pub fn compute_alpha_max(n: usize, p: usize, values: &[f64], y: &[f64], xty: &mut [f64]) -> Number
-    ensures { λ r. ⌜ (numberOf r ≡ calls.alphaMaxCall (calls.denseShape n p) calls.nothing calls.nothing (now (values .entry)) (now (y .entry)) (now (xty .entry)))
-        × (now (xty .exit) ≡ calls.alphaMaxLeft (calls.denseShape n p) calls.nothing calls.nothing (now (values .entry)) (now (y .entry)) (now (xty .entry))) ⌝ }
+    ensures { λ r. ⌜ (numberOf r ≡ calls.alphaMaxCall (def.denseShape n p) def.nothing def.nothing (now (values .entry)) (now (y .entry)) (now (xty .entry)))
+        × (now (xty .exit) ≡ calls.alphaMaxLeft (def.denseShape n p) def.nothing def.nothing (now (values .entry)) (now (y .entry)) (now (xty .entry))) ⌝ }
 {
     let none = [0u32; 0];
     let shape = Shape {
@@ -192,8 +193,8 @@ pub fn compute_alpha_max_sparse(
     y: &[f64],
     xty: &mut [f64],
 ) -> Number
-    ensures { λ r. ⌜ (numberOf r ≡ calls.alphaMaxCall (calls.cscShape n p) (now (starts .entry)) (now (rows .entry)) (now (values .entry)) (now (y .entry)) (now (xty .entry)))
-        × (now (xty .exit) ≡ calls.alphaMaxLeft (calls.cscShape n p) (now (starts .entry)) (now (rows .entry)) (now (values .entry)) (now (y .entry)) (now (xty .entry))) ⌝ }
+    ensures { λ r. ⌜ (numberOf r ≡ calls.alphaMaxCall (def.cscShape n p) (now (starts .entry)) (now (rows .entry)) (now (values .entry)) (now (y .entry)) (now (xty .entry)))
+        × (now (xty .exit) ≡ calls.alphaMaxLeft (def.cscShape n p) (now (starts .entry)) (now (rows .entry)) (now (values .entry)) (now (y .entry)) (now (xty .entry))) ⌝ }
 {
     let shape = Shape {
         layout: Layout::Csc,

@@ -1,4 +1,4 @@
--- "Refusal numbers, in the order they are tested": 1, 3, 4, 5 and 6, each with the place of the first fault.
+-- "Refusal numbers, in the order they are tested": 1, 3, 4, 5 and 6, each with the place of the first fault; and what follows one.
 use mathlib.Core.Bool.{Bool, true, false, not}
 use Prim.Native.Nat.{ℕ, _+_, _-_, _*_}
 use mathlib.Core.List.{List}
@@ -6,6 +6,7 @@ use lib.Dec.{leb, ltb, eqb}
 use lib.ListN.{length, getD}
 use lib.Ieee.{Float}
 use Rattle.doubles.specs.Num.{at, finite, pick, _and_, _or_}
+use Rattle.leaves.specs.Answer.{Outcome, refused, answered}
 use Rattle.designs.specs.Search.{firstOf, mark}
 use Rattle.designs.specs.declared.Found.{Found}
 use Rattle.designs.specs.declared.Found.the-variants.{At, Nowhere}
@@ -98,3 +99,13 @@ admitted s starts rows values y fits room =
 -- the public check: the targets are n
 unfoldable pub checkCall : Shape → List ℕ → List ℕ → List Float → List Float → Fault
 checkCall s starts rows values y = admitted s starts rows values y (eqb (length y) (s .n)) true
+
+-- ---- what follows a fault, or none
+abbrev pub after : {A : Type 0} → Fault → A → Outcome A
+after none a = answered a
+after (fault number place) a = refused number place
+
+-- "Refusals 1 to 6 .. change no lent buffer"
+abbrev pub left : {A : Type 0} → Fault → A → A → A
+left none new old = new
+left (fault number place) new old = old

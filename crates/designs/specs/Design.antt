@@ -1,6 +1,6 @@
 -- A design gives of each feature its stored entries; every column operation is defined once, over these, for both layouts.
 use Prim.Native.Nat.{ℕ, _+_, _-_, _*_}
-use mathlib.Core.List.{List, _++_}
+use mathlib.Core.List.{List, [], _++_}
 use lib.ListN.{length, getD, set}
 use lib.Ieee.{Float}
 use Rattle.doubles.specs.Num.{_⊕_, _⊖_, _⊗_, _⊘_, #0, count, at, abs}
@@ -38,6 +38,17 @@ laid Csc n p starts rows values = csc n p starts rows values
 -- the design of a shape and its three slices; a dense one's starts and rows are not looked at
 abbrev pub design : Shape → List ℕ → List ℕ → List Float → Design
 design s starts rows values = laid (s .layout) (s .n) (s .p) starts rows values
+
+-- the shapes of the two layouts
+abbrev pub denseShape : ℕ → ℕ → Shape
+denseShape n p = record { layout = Dense; n = n; p = p }
+
+abbrev pub cscShape : ℕ → ℕ → Shape
+cscShape n p = record { layout = Csc; n = n; p = p }
+
+-- the starts, or the rows, of a dense design
+abbrev pub nothing : List ℕ
+nothing = []
 
 -- ---- "The arithmetic"
 -- column · v, stored entries upward

@@ -11,7 +11,6 @@ use columns::all_finite;
 use columns::column_update;
 use columns::reading;
 use columns::sample_of;
-use datafits::inner::gradient_j;
 use designs::Feature;
 use designs::Layout;
 use designs::Shape;
@@ -21,6 +20,7 @@ use leaves::penalties::inner::violation;
 use leaves::penalties::separable::Penalty;
 use leaves::penalties::separable::prox;
 use passes::all_dots;
+use quadratic::gradient_j;
 
 // The largest violation, or that a gradient or a violation is not finite.
 pub enum Worst {

@@ -2,6 +2,7 @@
 // answers document 01's refusal number, 0 where there is none; where a refusal has a place, it is left in `place`.
 ghost use mathlib.Core.Path.{_≡_};
 ghost use lib.ListN.{length};
+ghost use Rattle.designs.specs.Design as def;
 ghost use Rattle.designs.specs.Checks.{verdictOf};
 ghost use Rattle.datafits.specs.Calls as calls;
 ghost use Rattle.runs.specs.Call as call;
@@ -25,7 +26,7 @@ use solvers::coordinate_descent;
 
 // The shape of a dense design, and below that of a CSC one.
 fn dense(n: usize, p: usize) -> Shape
-    ensures { λ r. ⌜ r ≡ calls.denseShape n p ⌝ }
+    ensures { λ r. ⌜ r ≡ def.denseShape n p ⌝ }
 {
     Shape {
         layout: Layout::Dense,
@@ -35,7 +36,7 @@ fn dense(n: usize, p: usize) -> Shape
 }
 
 fn csc(n: usize, p: usize) -> Shape
-    ensures { λ r. ⌜ r ≡ calls.cscShape n p ⌝ }
+    ensures { λ r. ⌜ r ≡ def.cscShape n p ⌝ }
 {
     Shape {
         layout: Layout::Csc,
@@ -152,11 +153,11 @@ pub extern "C" fn koyramutey_fit_dense(
     accepted: &mut usize,
     place: &mut usize,
 ) -> u32
-    ensures { λ r. ⌜ (let done = call.fitCall (calls.denseShape n p) calls.nothing calls.nothing (now (values .entry)) (now (y .entry)) (codes.settingsOf penalty alpha second tolerance start iterations epochs extrapolate depth) (lent (now (w .entry)) (now (fit .entry)) (now (indices .entry)) (now (scratch .entry))) in
+    ensures { λ r. ⌜ (let done = call.fitCall (def.denseShape n p) def.nothing def.nothing (now (values .entry)) (now (y .entry)) (codes.settingsOf penalty alpha second tolerance start iterations epochs extrapolate depth) (lent (now (w .entry)) (now (fit .entry)) (now (indices .entry)) (now (scratch .entry))) in
         (r ≡ codes.numberOfFit done)
         × (now (place .exit) ≡ codes.placeOfFit done)
         × (codes.report (now (status .exit)) (now (violation .exit)) (now (sets .exit)) (now (passes .exit)) (now (accepted .exit)) ≡ codes.reported done (codes.report (now (status .entry)) (now (violation .entry)) (now (sets .entry)) (now (passes .entry)) (now (accepted .entry))))
-        × (lent (now (w .exit)) (now (fit .exit)) (now (indices .exit)) (now (scratch .exit)) ≡ call.fitLeft (calls.denseShape n p) calls.nothing calls.nothing (now (values .entry)) (now (y .entry)) (codes.settingsOf penalty alpha second tolerance start iterations epochs extrapolate depth) (lent (now (w .entry)) (now (fit .entry)) (now (indices .entry)) (now (scratch .entry))))) ⌝ }
+        × (lent (now (w .exit)) (now (fit .exit)) (now (indices .exit)) (now (scratch .exit)) ≡ call.fitLeft (def.denseShape n p) def.nothing def.nothing (now (values .entry)) (now (y .entry)) (codes.settingsOf penalty alpha second tolerance start iterations epochs extrapolate depth) (lent (now (w .entry)) (now (fit .entry)) (now (indices .entry)) (now (scratch .entry))))) ⌝ }
 {
     let none = [0u32; 0];
     let settings = settings_of(
@@ -214,11 +215,11 @@ pub extern "C" fn koyramutey_fit_csc(
     accepted: &mut usize,
     place: &mut usize,
 ) -> u32
-    ensures { λ r. ⌜ (let done = call.fitCall (calls.cscShape n p) (now (starts .entry)) (now (rows .entry)) (now (values .entry)) (now (y .entry)) (codes.settingsOf penalty alpha second tolerance start iterations epochs extrapolate depth) (lent (now (w .entry)) (now (fit .entry)) (now (indices .entry)) (now (scratch .entry))) in
+    ensures { λ r. ⌜ (let done = call.fitCall (def.cscShape n p) (now (starts .entry)) (now (rows .entry)) (now (values .entry)) (now (y .entry)) (codes.settingsOf penalty alpha second tolerance start iterations epochs extrapolate depth) (lent (now (w .entry)) (now (fit .entry)) (now (indices .entry)) (now (scratch .entry))) in
         (r ≡ codes.numberOfFit done)
         × (now (place .exit) ≡ codes.placeOfFit done)
         × (codes.report (now (status .exit)) (now (violation .exit)) (now (sets .exit)) (now (passes .exit)) (now (accepted .exit)) ≡ codes.reported done (codes.report (now (status .entry)) (now (violation .entry)) (now (sets .entry)) (now (passes .entry)) (now (accepted .entry))))
-        × (lent (now (w .exit)) (now (fit .exit)) (now (indices .exit)) (now (scratch .exit)) ≡ call.fitLeft (calls.cscShape n p) (now (starts .entry)) (now (rows .entry)) (now (values .entry)) (now (y .entry)) (codes.settingsOf penalty alpha second tolerance start iterations epochs extrapolate depth) (lent (now (w .entry)) (now (fit .entry)) (now (indices .entry)) (now (scratch .entry))))) ⌝ }
+        × (lent (now (w .exit)) (now (fit .exit)) (now (indices .exit)) (now (scratch .exit)) ≡ call.fitLeft (def.cscShape n p) (now (starts .entry)) (now (rows .entry)) (now (values .entry)) (now (y .entry)) (codes.settingsOf penalty alpha second tolerance start iterations epochs extrapolate depth) (lent (now (w .entry)) (now (fit .entry)) (now (indices .entry)) (now (scratch .entry))))) ⌝ }
 {
     let settings = settings_of(
         penalty,
@@ -259,9 +260,9 @@ pub extern "C" fn koyramutey_full_grad_dense(
     grad: &mut [f64],
     place: &mut usize,
 ) -> u32
-    ensures { λ r. ⌜ (r ≡ numberOfFault (calls.fullGradFault (calls.denseShape n p) calls.nothing calls.nothing (now (values .entry)) (now (prepared .entry)) (now (fit .entry)) (now (grad .entry))))
-        × (now (place .exit) ≡ placeOfFault (calls.fullGradFault (calls.denseShape n p) calls.nothing calls.nothing (now (values .entry)) (now (prepared .entry)) (now (fit .entry)) (now (grad .entry))))
-        × (now (grad .exit) ≡ calls.fullGrad (calls.denseShape n p) calls.nothing calls.nothing (now (values .entry)) (now (prepared .entry)) (now (fit .entry)) (now (grad .entry))) ⌝ }
+    ensures { λ r. ⌜ (r ≡ numberOfFault (calls.fullGradFault (def.denseShape n p) def.nothing def.nothing (now (values .entry)) (now (prepared .entry)) (now (fit .entry)) (now (grad .entry))))
+        × (now (place .exit) ≡ placeOfFault (calls.fullGradFault (def.denseShape n p) def.nothing def.nothing (now (values .entry)) (now (prepared .entry)) (now (fit .entry)) (now (grad .entry))))
+        × (now (grad .exit) ≡ calls.fullGrad (def.denseShape n p) def.nothing def.nothing (now (values .entry)) (now (prepared .entry)) (now (fit .entry)) (now (grad .entry))) ⌝ }
 {
     let none = [0u32; 0];
     match datafits::full_grad(dense(n, p), &none, &none, values, prepared, fit, grad) {

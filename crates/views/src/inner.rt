@@ -2,6 +2,7 @@
 // slices have the view's lifetime.
 ghost use mathlib.Core.Path.{_≡_};
 ghost use Rattle.leaves.specs.Answer.{numberOf};
+ghost use Rattle.designs.specs.Design as def;
 ghost use Rattle.designs.specs.Checks.{verdictOf};
 ghost use Rattle.datafits.specs.Calls as calls;
 ghost use Rattle.runs.specs.Call as call;
@@ -46,8 +47,8 @@ pub fn coordinate_descent<'a, 'b, 'c, 'd, 'e, 'f>(
     indices: &'e mut [u32],
     scratch: &'f mut [f64],
 ) -> Fit
-    ensures { λ r. ⌜ (call.fitOf r ≡ call.fitCall (calls.cscShape n p) (now (starts .entry)) (now (rows .entry)) (now (values .entry)) (now (y .entry)) settings (lent (now (w .entry)) (now (fit .entry)) (now (indices .entry)) (now (scratch .entry))))
-        × (lent (now (w .exit)) (now (fit .exit)) (now (indices .exit)) (now (scratch .exit)) ≡ call.fitLeft (calls.cscShape n p) (now (starts .entry)) (now (rows .entry)) (now (values .entry)) (now (y .entry)) settings (lent (now (w .entry)) (now (fit .entry)) (now (indices .entry)) (now (scratch .entry)))) ⌝ }
+    ensures { λ r. ⌜ (call.fitOf r ≡ call.fitCall (def.cscShape n p) (now (starts .entry)) (now (rows .entry)) (now (values .entry)) (now (y .entry)) settings (lent (now (w .entry)) (now (fit .entry)) (now (indices .entry)) (now (scratch .entry))))
+        × (lent (now (w .exit)) (now (fit .exit)) (now (indices .exit)) (now (scratch .exit)) ≡ call.fitLeft (def.cscShape n p) (now (starts .entry)) (now (rows .entry)) (now (values .entry)) (now (y .entry)) settings (lent (now (w .entry)) (now (fit .entry)) (now (indices .entry)) (now (scratch .entry)))) ⌝ }
 {
     let shape = Shape {
         layout: Layout::Csc,
@@ -77,8 +78,8 @@ pub fn compute_alpha_max<'a, 'b, 'c>(
     y: &'b [f64],
     xty: &'c mut [f64],
 ) -> Number
-    ensures { λ r. ⌜ (numberOf r ≡ calls.alphaMaxCall (calls.cscShape n p) (now (starts .entry)) (now (rows .entry)) (now (values .entry)) (now (y .entry)) (now (xty .entry)))
-        × (now (xty .exit) ≡ calls.alphaMaxLeft (calls.cscShape n p) (now (starts .entry)) (now (rows .entry)) (now (values .entry)) (now (y .entry)) (now (xty .entry))) ⌝ }
+    ensures { λ r. ⌜ (numberOf r ≡ calls.alphaMaxCall (def.cscShape n p) (now (starts .entry)) (now (rows .entry)) (now (values .entry)) (now (y .entry)) (now (xty .entry)))
+        × (now (xty .exit) ≡ calls.alphaMaxLeft (def.cscShape n p) (now (starts .entry)) (now (rows .entry)) (now (values .entry)) (now (y .entry)) (now (xty .entry))) ⌝ }
 {
     datafits::compute_alpha_max_sparse(n, p, starts, rows, values, y, xty)
 }
@@ -92,8 +93,8 @@ pub fn initialize<'a, 'b, 'c>(
     y: &'b [f64],
     prepared: &'c mut [f64],
 ) -> Verdict
-    ensures { λ r. ⌜ (verdictOf r ≡ calls.initializeFault (calls.cscShape n p) (now (starts .entry)) (now (rows .entry)) (now (values .entry)) (now (y .entry)) (now (prepared .entry)))
-        × (now (prepared .exit) ≡ calls.initialized (calls.cscShape n p) (now (starts .entry)) (now (rows .entry)) (now (values .entry)) (now (y .entry)) (now (prepared .entry))) ⌝ }
+    ensures { λ r. ⌜ (verdictOf r ≡ calls.initializeFault (def.cscShape n p) (now (starts .entry)) (now (rows .entry)) (now (values .entry)) (now (y .entry)) (now (prepared .entry)))
+        × (now (prepared .exit) ≡ calls.initialized (def.cscShape n p) (now (starts .entry)) (now (rows .entry)) (now (values .entry)) (now (y .entry)) (now (prepared .entry))) ⌝ }
 {
     let shape = Shape {
         layout: Layout::Csc,
@@ -113,7 +114,7 @@ pub fn gradient_j<'a, 'b, 'c>(
     fit: &'c [f64],
     feature: Feature,
 ) -> Number
-    ensures { λ r. ⌜ numberOf r ≡ calls.gradientCall (calls.cscShape n p) (now (starts .entry)) (now (rows .entry)) (now (values .entry)) (now (prepared .entry)) (now (fit .entry)) (feature .0) ⌝ }
+    ensures { λ r. ⌜ numberOf r ≡ calls.gradientCall (def.cscShape n p) (now (starts .entry)) (now (rows .entry)) (now (values .entry)) (now (prepared .entry)) (now (fit .entry)) (feature .0) ⌝ }
 {
     let shape = Shape {
         layout: Layout::Csc,
@@ -133,8 +134,8 @@ pub fn full_grad<'a, 'b, 'c, 'd>(
     fit: &'c [f64],
     grad: &'d mut [f64],
 ) -> Verdict
-    ensures { λ r. ⌜ (verdictOf r ≡ calls.fullGradFault (calls.cscShape n p) (now (starts .entry)) (now (rows .entry)) (now (values .entry)) (now (prepared .entry)) (now (fit .entry)) (now (grad .entry)))
-        × (now (grad .exit) ≡ calls.fullGrad (calls.cscShape n p) (now (starts .entry)) (now (rows .entry)) (now (values .entry)) (now (prepared .entry)) (now (fit .entry)) (now (grad .entry))) ⌝ }
+    ensures { λ r. ⌜ (verdictOf r ≡ calls.fullGradFault (def.cscShape n p) (now (starts .entry)) (now (rows .entry)) (now (values .entry)) (now (prepared .entry)) (now (fit .entry)) (now (grad .entry)))
+        × (now (grad .exit) ≡ calls.fullGrad (def.cscShape n p) (now (starts .entry)) (now (rows .entry)) (now (values .entry)) (now (prepared .entry)) (now (fit .entry)) (now (grad .entry))) ⌝ }
 {
     let shape = Shape {
         layout: Layout::Csc,
@@ -154,8 +155,8 @@ pub fn update_model_fit<'a, 'b>(
     diff: f64,
     feature: Feature,
 ) -> Verdict
-    ensures { λ r. ⌜ (verdictOf r ≡ calls.updateFault (calls.cscShape n p) (now (starts .entry)) (now (rows .entry)) (now (values .entry)) (now (fit .entry)) (feature .0))
-        × (now (fit .exit) ≡ calls.updated (calls.cscShape n p) (now (starts .entry)) (now (rows .entry)) (now (values .entry)) (now (fit .entry)) diff (feature .0)) ⌝ }
+    ensures { λ r. ⌜ (verdictOf r ≡ calls.updateFault (def.cscShape n p) (now (starts .entry)) (now (rows .entry)) (now (values .entry)) (now (fit .entry)) (feature .0))
+        × (now (fit .exit) ≡ calls.updated (def.cscShape n p) (now (starts .entry)) (now (rows .entry)) (now (values .entry)) (now (fit .entry)) diff (feature .0)) ⌝ }
 {
     let shape = Shape {
         layout: Layout::Csc,
@@ -175,8 +176,8 @@ pub fn compute_extrapolated_fit<'a, 'b, 'c, 'd>(
     w: &'c [f64],
     fit: &'d mut [f64],
 ) -> Verdict
-    ensures { λ r. ⌜ (verdictOf r ≡ calls.extrapolatedFault (calls.cscShape n p) (now (starts .entry)) (now (rows .entry)) (now (values .entry)) (now (ws .entry)) (now (w .entry)) (now (fit .entry)))
-        × (now (fit .exit) ≡ calls.extrapolatedFit (calls.cscShape n p) (now (starts .entry)) (now (rows .entry)) (now (values .entry)) (now (ws .entry)) (now (w .entry)) (now (fit .entry))) ⌝ }
+    ensures { λ r. ⌜ (verdictOf r ≡ calls.extrapolatedFault (def.cscShape n p) (now (starts .entry)) (now (rows .entry)) (now (values .entry)) (now (ws .entry)) (now (w .entry)) (now (fit .entry)))
+        × (now (fit .exit) ≡ calls.extrapolatedFit (def.cscShape n p) (now (starts .entry)) (now (rows .entry)) (now (values .entry)) (now (ws .entry)) (now (w .entry)) (now (fit .entry))) ⌝ }
 {
     let shape = Shape {
         layout: Layout::Csc,

@@ -2,6 +2,7 @@
 // on the slices, as the public call of the crate below for a CSC design.
 ghost use mathlib.Core.Path.{_≡_};
 ghost use Rattle.leaves.specs.Answer.{numberOf};
+ghost use Rattle.designs.specs.Design as def;
 ghost use Rattle.designs.specs.Checks.{verdictOf};
 ghost use Rattle.datafits.specs.Calls as calls;
 ghost use Rattle.runs.specs.Call as call;
@@ -51,8 +52,8 @@ pub fn coordinate_descent_sparse<'a, 'b, 'c, 'd, 'e, 'f>(
     indices: &'e mut [u32],
     scratch: &'f mut [f64],
 ) -> Fit
-    ensures { λ r. ⌜ (call.fitOf r ≡ call.fitCall (calls.cscShape n p) (now (x .entry .starts)) (now (x .entry .rows)) (now (x .entry .values)) (now (y .entry)) settings (lent (now (w .entry)) (now (fit .entry)) (now (indices .entry)) (now (scratch .entry))))
-        × (lent (now (w .exit)) (now (fit .exit)) (now (indices .exit)) (now (scratch .exit)) ≡ call.fitLeft (calls.cscShape n p) (now (x .entry .starts)) (now (x .entry .rows)) (now (x .entry .values)) (now (y .entry)) settings (lent (now (w .entry)) (now (fit .entry)) (now (indices .entry)) (now (scratch .entry)))) ⌝ }
+    ensures { λ r. ⌜ (call.fitOf r ≡ call.fitCall (def.cscShape n p) (now (x .entry .starts)) (now (x .entry .rows)) (now (x .entry .values)) (now (y .entry)) settings (lent (now (w .entry)) (now (fit .entry)) (now (indices .entry)) (now (scratch .entry))))
+        × (lent (now (w .exit)) (now (fit .exit)) (now (indices .exit)) (now (scratch .exit)) ≡ call.fitLeft (def.cscShape n p) (now (x .entry .starts)) (now (x .entry .rows)) (now (x .entry .values)) (now (y .entry)) settings (lent (now (w .entry)) (now (fit .entry)) (now (indices .entry)) (now (scratch .entry)))) ⌝ }
 {
     inner::coordinate_descent(
         x.starts,
@@ -77,8 +78,8 @@ pub fn compute_alpha_max_sparse<'a, 'b, 'c>(
     y: &'b [f64],
     xty: &'c mut [f64],
 ) -> Number
-    ensures { λ r. ⌜ (numberOf r ≡ calls.alphaMaxCall (calls.cscShape n p) (now (x .entry .starts)) (now (x .entry .rows)) (now (x .entry .values)) (now (y .entry)) (now (xty .entry)))
-        × (now (xty .exit) ≡ calls.alphaMaxLeft (calls.cscShape n p) (now (x .entry .starts)) (now (x .entry .rows)) (now (x .entry .values)) (now (y .entry)) (now (xty .entry))) ⌝ }
+    ensures { λ r. ⌜ (numberOf r ≡ calls.alphaMaxCall (def.cscShape n p) (now (x .entry .starts)) (now (x .entry .rows)) (now (x .entry .values)) (now (y .entry)) (now (xty .entry)))
+        × (now (xty .exit) ≡ calls.alphaMaxLeft (def.cscShape n p) (now (x .entry .starts)) (now (x .entry .rows)) (now (x .entry .values)) (now (y .entry)) (now (xty .entry))) ⌝ }
 {
     inner::compute_alpha_max(x.starts, x.rows, x.values, n, p, y, xty)
 }
@@ -91,8 +92,8 @@ pub fn initialize_sparse<'a, 'b, 'c>(
     y: &'b [f64],
     prepared: &'c mut [f64],
 ) -> Verdict
-    ensures { λ r. ⌜ (verdictOf r ≡ calls.initializeFault (calls.cscShape n p) (now (x .entry .starts)) (now (x .entry .rows)) (now (x .entry .values)) (now (y .entry)) (now (prepared .entry)))
-        × (now (prepared .exit) ≡ calls.initialized (calls.cscShape n p) (now (x .entry .starts)) (now (x .entry .rows)) (now (x .entry .values)) (now (y .entry)) (now (prepared .entry))) ⌝ }
+    ensures { λ r. ⌜ (verdictOf r ≡ calls.initializeFault (def.cscShape n p) (now (x .entry .starts)) (now (x .entry .rows)) (now (x .entry .values)) (now (y .entry)) (now (prepared .entry)))
+        × (now (prepared .exit) ≡ calls.initialized (def.cscShape n p) (now (x .entry .starts)) (now (x .entry .rows)) (now (x .entry .values)) (now (y .entry)) (now (prepared .entry))) ⌝ }
 {
     inner::initialize(x.starts, x.rows, x.values, n, p, y, prepared)
 }
@@ -106,7 +107,7 @@ pub fn gradient_j_sparse<'a, 'b, 'c>(
     fit: &'c [f64],
     feature: Feature,
 ) -> Number
-    ensures { λ r. ⌜ numberOf r ≡ calls.gradientCall (calls.cscShape n p) (now (x .entry .starts)) (now (x .entry .rows)) (now (x .entry .values)) (now (prepared .entry)) (now (fit .entry)) (feature .0) ⌝ }
+    ensures { λ r. ⌜ numberOf r ≡ calls.gradientCall (def.cscShape n p) (now (x .entry .starts)) (now (x .entry .rows)) (now (x .entry .values)) (now (prepared .entry)) (now (fit .entry)) (feature .0) ⌝ }
 {
     inner::gradient_j(x.starts, x.rows, x.values, n, p, prepared, fit, feature)
 }
@@ -120,8 +121,8 @@ pub fn full_grad_sparse<'a, 'b, 'c, 'd>(
     fit: &'c [f64],
     grad: &'d mut [f64],
 ) -> Verdict
-    ensures { λ r. ⌜ (verdictOf r ≡ calls.fullGradFault (calls.cscShape n p) (now (x .entry .starts)) (now (x .entry .rows)) (now (x .entry .values)) (now (prepared .entry)) (now (fit .entry)) (now (grad .entry)))
-        × (now (grad .exit) ≡ calls.fullGrad (calls.cscShape n p) (now (x .entry .starts)) (now (x .entry .rows)) (now (x .entry .values)) (now (prepared .entry)) (now (fit .entry)) (now (grad .entry))) ⌝ }
+    ensures { λ r. ⌜ (verdictOf r ≡ calls.fullGradFault (def.cscShape n p) (now (x .entry .starts)) (now (x .entry .rows)) (now (x .entry .values)) (now (prepared .entry)) (now (fit .entry)) (now (grad .entry)))
+        × (now (grad .exit) ≡ calls.fullGrad (def.cscShape n p) (now (x .entry .starts)) (now (x .entry .rows)) (now (x .entry .values)) (now (prepared .entry)) (now (fit .entry)) (now (grad .entry))) ⌝ }
 {
     inner::full_grad(x.starts, x.rows, x.values, n, p, prepared, fit, grad)
 }
@@ -135,8 +136,8 @@ pub fn update_model_fit_sparse<'a, 'b>(
     diff: f64,
     feature: Feature,
 ) -> Verdict
-    ensures { λ r. ⌜ (verdictOf r ≡ calls.updateFault (calls.cscShape n p) (now (x .entry .starts)) (now (x .entry .rows)) (now (x .entry .values)) (now (fit .entry)) (feature .0))
-        × (now (fit .exit) ≡ calls.updated (calls.cscShape n p) (now (x .entry .starts)) (now (x .entry .rows)) (now (x .entry .values)) (now (fit .entry)) diff (feature .0)) ⌝ }
+    ensures { λ r. ⌜ (verdictOf r ≡ calls.updateFault (def.cscShape n p) (now (x .entry .starts)) (now (x .entry .rows)) (now (x .entry .values)) (now (fit .entry)) (feature .0))
+        × (now (fit .exit) ≡ calls.updated (def.cscShape n p) (now (x .entry .starts)) (now (x .entry .rows)) (now (x .entry .values)) (now (fit .entry)) diff (feature .0)) ⌝ }
 {
     inner::update_model_fit(x.starts, x.rows, x.values, n, p, fit, diff, feature)
 }
@@ -150,8 +151,8 @@ pub fn compute_extrapolated_fit_sparse<'a, 'b, 'c, 'd>(
     w: &'c [f64],
     fit: &'d mut [f64],
 ) -> Verdict
-    ensures { λ r. ⌜ (verdictOf r ≡ calls.extrapolatedFault (calls.cscShape n p) (now (x .entry .starts)) (now (x .entry .rows)) (now (x .entry .values)) (now (ws .entry)) (now (w .entry)) (now (fit .entry)))
-        × (now (fit .exit) ≡ calls.extrapolatedFit (calls.cscShape n p) (now (x .entry .starts)) (now (x .entry .rows)) (now (x .entry .values)) (now (ws .entry)) (now (w .entry)) (now (fit .entry))) ⌝ }
+    ensures { λ r. ⌜ (verdictOf r ≡ calls.extrapolatedFault (def.cscShape n p) (now (x .entry .starts)) (now (x .entry .rows)) (now (x .entry .values)) (now (ws .entry)) (now (w .entry)) (now (fit .entry)))
+        × (now (fit .exit) ≡ calls.extrapolatedFit (def.cscShape n p) (now (x .entry .starts)) (now (x .entry .rows)) (now (x .entry .values)) (now (ws .entry)) (now (w .entry)) (now (fit .entry))) ⌝ }
 {
     inner::compute_extrapolated_fit(x.starts, x.rows, x.values, n, p, ws, w, fit)
 }

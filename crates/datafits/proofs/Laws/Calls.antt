@@ -1,5 +1,5 @@
--- What follows a verdict: where the tests refuse, the refusal and unchanged buffers; where they pass, the answer. Assumes nothing.
-use mathlib.Core.Path.{_≡_, refl, sym, ap, _∙_}
+-- What the tests of room and of a list of features say. Assumes nothing.
+use mathlib.Core.Path.{_≡_, refl, sym}
 use mathlib.Core.Bool.{Bool, true, false}
 use Prim.Native.Nat.{ℕ, _+_, _/_, _≤_, _<_}
 use native.Mathlib.Omega.{arith}
@@ -10,31 +10,7 @@ use borrow.Author.Tests.{le-leb, lt-leb, leb-true, leb-false, ltb-true}
 use Rattle.doubles.specs.Num.{_and_}
 use Rattle.doubles.proofs.Laws.Choice.{and-both}
 use Rattle.doubles.proofs.Laws.Steps.{all-each}
-use Rattle.leaves.specs.Answer.{refused, answered}
-use Rattle.leaves.specs.declared.Refusal.{Refusal}
-use Rattle.designs.specs.Checks.{Fault, none, fault, verdictOf}
-use Rattle.designs.specs.declared.Verdict.{Verdict}
-use Rattle.designs.specs.declared.Verdict.the-variants as Verdict
-use Rattle.datafits.specs.Calls.{after, left, allBelow}
-
-module _ (v : Verdict) {f : Fault} (e : verdictOf v ≡ f) where
-  pub stop : (r : Refusal) → v ≡ Verdict.Refused r → fault (r .number) (r .place) ≡ f
-  stop r h = sym (ap verdictOf h) ∙ e
-
-  pub stop-after : {A : Type 0} (a : A) (r : Refusal) → v ≡ Verdict.Refused r → refused (r .number) (r .place) ≡ after f a
-  stop-after a r h = rw (← stop r h)
-
-  pub stop-left : {A : Type 0} (new old : A) (r : Refusal) → v ≡ Verdict.Refused r → old ≡ left f new old
-  stop-left new old r h = rw (← stop r h)
-
-  pub pass : v ≡ Verdict.Fine → none ≡ f
-  pass h = sym (ap verdictOf h) ∙ e
-
-  pub pass-after : {A : Type 0} (a x : A) → v ≡ Verdict.Fine → x ≡ a → answered x ≡ after f a
-  pass-after a x h q = rw (← pass h, q)
-
-  pub pass-left : {A : Type 0} (new old x : A) → v ≡ Verdict.Fine → x ≡ new → x ≡ left f new old
-  pass-left new old x h q = rw (← pass h) q
+use Rattle.datafits.specs.Calls.{allBelow}
 
 -- half a length against p is the length against 2p
 pub halved : (p n : ℕ) → leb p (n / 2) ≡ leb (p + p) n

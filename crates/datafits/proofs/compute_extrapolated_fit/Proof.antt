@@ -2,8 +2,8 @@
 use mathlib.Core.Path.{sym, _∙_}
 use borrow.Author.Tests.{leb-true}
 use Rattle.doubles.proofs.Laws.Choice.{and-both}
-use Rattle.designs.proofs.Laws.Passed.{admits}
-use Rattle.datafits.proofs.Laws.Calls.{stop, stop-left, pass, pass-left, each-below}
+use Rattle.designs.proofs.Laws.Passed.{admits, stop, stop-left, pass, pass-left}
+use Rattle.datafits.proofs.Laws.Calls.{each-below}
 use Rattle.datafits.specs.Calls.{extrapolatedFault, extrapolatedFit}
 use borrow.Author.Needs.{needs}
 use Rattle.datafits.proofs.compute_extrapolated_fit.Statement.{statement}

@@ -2,8 +2,7 @@
 use mathlib.Core.Path.{sym, _∙_}
 use borrow.Author.Tests.{leb-true, ltb-true}
 use Rattle.doubles.proofs.Laws.Choice.{and-both}
-use Rattle.designs.proofs.Laws.Passed.{admits}
-use Rattle.datafits.proofs.Laws.Calls.{stop-after, pass, pass-after}
+use Rattle.designs.proofs.Laws.Passed.{admits, stop-after, pass, pass-after}
 use Rattle.datafits.specs.Calls.{gradientFault, gradientCall}
 use borrow.Author.Needs.{needs}
 use Rattle.datafits.proofs.gradient_j.Statement.{statement}

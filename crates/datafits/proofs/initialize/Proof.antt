@@ -2,8 +2,7 @@
 use mathlib.Core.Path.{sym, _∙_}
 use native.Mathlib.Nat.{le-of-eq}
 use borrow.Author.Tests.{leb-true, eqb-true}
-use Rattle.designs.proofs.Laws.Passed.{admits}
-use Rattle.datafits.proofs.Laws.Calls.{stop, stop-left, pass, pass-left}
+use Rattle.designs.proofs.Laws.Passed.{admits, stop, stop-left, pass, pass-left}
 use Rattle.datafits.specs.Calls.{initializeFault, initialized}
 use borrow.Author.Needs.{needs}
 use Rattle.datafits.proofs.initialize.Statement.{statement}

@@ -1,8 +1,7 @@
 -- `update_model_fit`: the tests, then the column. Assumes nothing.
 use mathlib.Core.Path.{sym}
 use borrow.Author.Tests.{leb-true, ltb-true}
-use Rattle.designs.proofs.Laws.Passed.{admits}
-use Rattle.datafits.proofs.Laws.Calls.{stop, stop-left, pass, pass-left}
+use Rattle.designs.proofs.Laws.Passed.{admits, stop, stop-left, pass, pass-left}
 use Rattle.datafits.specs.Calls.{updateFault, updated}
 use borrow.Author.Needs.{needs}
 use Rattle.datafits.proofs.update_model_fit.Statement.{statement}

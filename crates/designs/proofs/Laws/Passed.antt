@@ -1,5 +1,5 @@
--- A design that passes the tests is sound, and what passed beside it. Assumes nothing.
-use mathlib.Core.Path.{_≡_, refl, sym, _∙_}
+-- A design that passes the tests is sound, and what passed beside it; what a call answers and leaves behind a verdict. Assumes nothing.
+use mathlib.Core.Path.{_≡_, refl, sym, ap, _∙_}
 use mathlib.Core.Bool.{Bool, true, false, false≢true}
 use mathlib.Core.Logic.{_⊎_, inl, inr, ⊎-elim}
 use Prim.Native.Nat.{ℕ, zero, suc, _+_, _-_, _*_, _≤_, _<_}
@@ -13,16 +13,20 @@ use lib.ListN.{length, getD}
 use lib.Ieee.{Float}
 use Rattle.doubles.specs.Num.{_and_, _or_}
 use Rattle.doubles.proofs.Laws.Choice.{and-both}
+use Rattle.leaves.specs.Answer.{refused, answered}
+use Rattle.leaves.specs.declared.Refusal.{Refusal}
 use Rattle.designs.specs.Search.{mark}
 use Rattle.designs.proofs.Laws.Search.{unmarked, first-none, none-first}
 use Rattle.designs.proofs.Laws.Layouts.{row-below}
 use Rattle.designs.specs.Sound.{Rising, Sound, Held, Whole}
-use Rattle.designs.specs.Checks.{Fault, none, unless, told, lengths, sizes, falls, badStart, badStarts, badRow, badColumn, badRows, cscFault, contents, admitted}
+use Rattle.designs.specs.Checks.{Fault, none, fault, verdictOf, after, left, unless, told, lengths, sizes, falls, badStart, badStarts, badRow, badColumn, badRows, cscFault, contents, admitted}
 use Rattle.designs.specs.declared.Found.{Found}
 use Rattle.designs.specs.declared.Found.the-variants.{At, Nowhere}
 use Rattle.designs.specs.declared.Layout.{Layout}
 use Rattle.designs.specs.declared.Layout.the-variants.{Dense, Csc}
 use Rattle.designs.specs.declared.Shape.{Shape}
+use Rattle.designs.specs.declared.Verdict.{Verdict}
+use Rattle.designs.specs.declared.Verdict.the-variants as Verdict
 
 -- ---- connectives
 neither : (a b : Bool) → (a or b) ≡ false → (a ≡ false) × (b ≡ false)
@@ -234,3 +238,23 @@ admits s starts rows values y fits room e =
     let c = spared room 3 _ (a .1) in
     let z = sized s starts rows values (b .0) in
     record { sized = z; fit = b .1; roomy = c .0; whole = held (s .n) (s .p) starts rows values y (s .layout) (z .agree) (c .1) }
+
+-- ---- what follows a verdict: where the tests refuse, the refusal and unchanged buffers; where they pass, the answer
+module _ (v : Verdict) {f : Fault} (e : verdictOf v ≡ f) where
+  pub stop : (r : Refusal) → v ≡ Verdict.Refused r → fault (r .number) (r .place) ≡ f
+  stop r h = sym (ap verdictOf h) ∙ e
+
+  pub stop-after : {A : Type 0} (a : A) (r : Refusal) → v ≡ Verdict.Refused r → refused (r .number) (r .place) ≡ after f a
+  stop-after a r h = rw (← stop r h)
+
+  pub stop-left : {A : Type 0} (new old : A) (r : Refusal) → v ≡ Verdict.Refused r → old ≡ left f new old
+  stop-left new old r h = rw (← stop r h)
+
+  pub pass : v ≡ Verdict.Fine → none ≡ f
+  pass h = sym (ap verdictOf h) ∙ e
+
+  pub pass-after : {A : Type 0} (a x : A) → v ≡ Verdict.Fine → x ≡ a → answered x ≡ after f a
+  pass-after a x h q = rw (← pass h, q)
+
+  pub pass-left : {A : Type 0} (new old x : A) → v ≡ Verdict.Fine → x ≡ new → x ≡ left f new old
+  pass-left new old x h q = rw (← pass h) q

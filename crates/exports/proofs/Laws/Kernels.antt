@@ -11,11 +11,10 @@ use borrow.Author.Tests.{le-leb, lt-leb, leb-true, ltb-true}
 use Rattle.doubles.specs.Num.{_and_}
 use Rattle.doubles.proofs.Laws.Choice.{and-both}
 use Rattle.designs.specs.Checks.{none, fault, sizes}
-use Rattle.designs.specs.Design.{design, laid, dot, moved}
+use Rattle.designs.specs.Design.{design, denseShape, nothing, laid, dot, moved}
 use Rattle.designs.specs.Sound.{Held, Whole}
 use Rattle.designs.specs.declared.Shape.{Shape}
 use Rattle.designs.proofs.Laws.Passed.{sized, spared, dense-values}
-use Rattle.datafits.specs.Calls.{denseShape, nothing}
 use Rattle.exports.specs.Kernels.{kernelFault, productLeft, updateLeft}
 
 module _ (n p : ℕ) (values : List Float) (column : ℕ) (s : Shape) (hs : s ≡ denseShape n p) where

@@ -1,6 +1,6 @@
 -- `koyramutey_column_update_dense`: the tests, then the column. Assumes nothing.
 use mathlib.Core.Path.{ap}
-use Rattle.datafits.proofs.Laws.Calls.{stop, pass}
+use Rattle.designs.proofs.Laws.Passed.{stop, pass}
 use Rattle.exports.specs.Codes.{numberOfFault, placeOfFault}
 use Rattle.exports.proofs.Laws.Kernels.{ready, update-told, update-kept}
 use borrow.Author.Needs.{needs}

@@ -1,6 +1,6 @@
 -- `koyramutey_full_grad_dense`: the verdict as two numbers. Assumes nothing.
 use mathlib.Core.Path.{ap}
-use Rattle.datafits.proofs.Laws.Calls.{stop, pass}
+use Rattle.designs.proofs.Laws.Passed.{stop, pass}
 use Rattle.exports.specs.Codes.{numberOfFault, placeOfFault}
 use borrow.Author.Needs.{needs}
 use Rattle.exports.proofs.koyramutey_full_grad_dense.Statement.{statement}

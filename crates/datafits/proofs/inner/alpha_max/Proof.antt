@@ -2,8 +2,7 @@
 use mathlib.Core.Path.{sym}
 use native.Mathlib.Nat.{le-of-eq}
 use borrow.Author.Tests.{leb-true, eqb-true}
-use Rattle.designs.proofs.Laws.Passed.{admits}
-use Rattle.datafits.proofs.Laws.Calls.{stop-after, stop-left, pass, pass-after, pass-left}
+use Rattle.designs.proofs.Laws.Passed.{admits, stop-after, stop-left, pass, pass-after, pass-left}
 use Rattle.datafits.specs.Calls.{alphaMaxFault, alphaMaxCall, alphaMaxLeft}
 use borrow.Author.Needs.{needs}
 use Rattle.datafits.proofs.inner.alpha_max.Statement.{statement}

@@ -2,8 +2,8 @@
 use Rattle.designs.specs.Design.{datafit}
 use Rattle.designs.proofs.Laws.Layouts.{counted-twice}
 use borrow.Author.Needs.{needs}
-use Rattle.datafits.proofs.inner.value.Statement.{statement}
-use Rattle.datafits.proofs.inner.value.Tie as tie
+use Rattle.quadratic.proofs.value.Statement.{statement}
+use Rattle.quadratic.proofs.value.Tie as tie
 
 squared-error-requires : tie.Need-squared-error-requires
 squared-error-requires c κs = search needs

@@ -4,8 +4,8 @@ use denote.Ref.{now}
 use lib.Seq.{length-take-le}
 use Rattle.doubles.proofs.Laws.Buffer.{put-front}
 use borrow.Author.Needs.{needs}
-use Rattle.datafits.proofs.inner.full_grad.Statement.{statement}
-use Rattle.datafits.proofs.inner.full_grad.Tie as tie
+use Rattle.quadratic.proofs.full_grad.Statement.{statement}
+use Rattle.quadratic.proofs.full_grad.Tie as tie
 
 slice-relend-prefix-all-gradients : tie.Need-slice-relend-prefix-all-gradients
 slice-relend-prefix-all-gradients c = search needs

@@ -2,8 +2,8 @@
 use Rattle.designs.specs.Design.{gradient}
 use Rattle.designs.proofs.Laws.Layouts.{samples, counted}
 use borrow.Author.Needs.{needs}
-use Rattle.datafits.proofs.inner.gradient_j.Statement.{statement}
-use Rattle.datafits.proofs.inner.gradient_j.Tie as tie
+use Rattle.quadratic.proofs.gradient_j.Statement.{statement}
+use Rattle.quadratic.proofs.gradient_j.Tie as tie
 
 column-dot-requires : tie.Need-column-dot-requires
 column-dot-requires c κs = search needs

@@ -7,8 +7,8 @@ use Rattle.doubles.specs.Steps.{sum as total}
 use Rattle.doubles.proofs.Laws.Steps.{steps-none, steps-more, steps-all}
 use Rattle.designs.specs.Design.{squaredError}
 use borrow.Author.Needs.{needs}
-use Rattle.datafits.proofs.inner.squared_error.Statement.{statement}
-use Rattle.datafits.proofs.inner.squared_error.Tie as tie
+use Rattle.quadratic.proofs.squared_error.Statement.{statement}
+use Rattle.quadratic.proofs.squared_error.Tie as tie
 
 abbrev Inv-loop : tie.InvT-loop
 Inv-loop y fit s₀ i₀ s i = (i ≤ length y) × (s ≡ total (λ k. (at y k ⊖ at fit k) ⊗ (at y k ⊖ at fit k)) i)

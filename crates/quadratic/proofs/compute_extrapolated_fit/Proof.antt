@@ -4,8 +4,8 @@ use denote.Ref.{now}
 use lib.Seq.{length-take-le}
 use Rattle.doubles.proofs.Laws.Buffer.{put-front}
 use borrow.Author.Needs.{needs}
-use Rattle.datafits.proofs.inner.compute_extrapolated_fit.Statement.{statement}
-use Rattle.datafits.proofs.inner.compute_extrapolated_fit.Tie as tie
+use Rattle.quadratic.proofs.compute_extrapolated_fit.Statement.{statement}
+use Rattle.quadratic.proofs.compute_extrapolated_fit.Tie as tie
 
 slice-aggregate-extrapolated-fit : tie.Need-slice-aggregate-extrapolated-fit
 slice-aggregate-extrapolated-fit c = sym (length-take-le _ _ (c .before .before .before .before .before .before .before .pre .2))

@@ -5,8 +5,8 @@ use denote.Ref.{now}
 use lib.Seq.{length-take-le}
 use Rattle.doubles.proofs.Laws.Buffer.{put-front}
 use borrow.Author.Needs.{needs}
-use Rattle.datafits.proofs.inner.initialize.Statement.{statement}
-use Rattle.datafits.proofs.inner.initialize.Tie as tie
+use Rattle.quadratic.proofs.initialize.Statement.{statement}
+use Rattle.quadratic.proofs.initialize.Tie as tie
 
 add-room : tie.Need-add-room
 add-room c = search needs

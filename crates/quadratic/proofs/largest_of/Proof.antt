@@ -4,8 +4,8 @@ use denote.Ref.{now}
 use lib.Seq.{length-take-le}
 use Rattle.doubles.proofs.Laws.Buffer.{put-front}
 use borrow.Author.Needs.{needs}
-use Rattle.datafits.proofs.inner.largest_of.Statement.{statement}
-use Rattle.datafits.proofs.inner.largest_of.Tie as tie
+use Rattle.quadratic.proofs.largest_of.Statement.{statement}
+use Rattle.quadratic.proofs.largest_of.Tie as tie
 
 slice-relend-prefix-alpha-max : tie.Need-slice-relend-prefix-alpha-max
 slice-relend-prefix-alpha-max c = search needs
