@@ -1,3 +1,2 @@
--- Laws that belong to no one function, and the tightness of the public promises.
-mod Laws
+-- The tightness of the public promises.
 mod Tight

@@ -8,7 +8,7 @@ use denote.Ref.{now}
 use Rattle.doubles.proofs.Tight.{coincide}
 use Rattle.runs.specs.Call.{Lent}
 use Rattle.runs.specs.declared.Report.{Report}
-use Rattle.exports.specs.Codes.{report}
+use Rattle.codes.specs.Codes.{report}
 use Rattle.solvers.specs.Buffers.{lent}
 use Rattle.exports.proofs.koyramutey_fit_dense.Reads as fit-dense-reads
 use Rattle.exports.proofs.koyramutey_fit_csc.Reads as fit-csc-reads

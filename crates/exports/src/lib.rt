@@ -3,126 +3,25 @@
 ghost use mathlib.Core.Path.{_≡_};
 ghost use lib.ListN.{length};
 ghost use Rattle.designs.specs.Design as def;
-ghost use Rattle.designs.specs.Checks.{verdictOf};
 ghost use Rattle.datafits.specs.Calls as calls;
 ghost use Rattle.runs.specs.Call as call;
 ghost use Rattle.solvers.specs.Buffers.{lent};
-ghost use Rattle.exports.specs.Codes as codes;
-ghost use Rattle.exports.specs.Codes.{numberOfFault, placeOfFault};
-ghost use Rattle.exports.specs.Kernels as kernels;
+ghost use Rattle.codes.specs.Codes as codes;
+ghost use Rattle.codes.specs.Codes.{numberOfFault, placeOfFault};
+ghost use Rattle.codes.specs.Kernels as kernels;
+use codes::admit_column;
+use codes::csc;
+use codes::dense;
+use codes::settings_of;
+use codes::tell;
+use codes::tell_verdict;
 use columns::column_dot;
 use columns::column_update;
 use designs::Feature;
-use designs::Layout;
-use designs::Shape;
 use designs::Verdict;
-use designs::checks::both;
-use designs::checks::sizes_agree;
-use leaves::Refusal;
-use leaves::penalties::separable::Penalty;
-use runs::Fit;
-use runs::Settings;
 use solvers::coordinate_descent;
 
-// The shape of a dense design, and below that of a CSC one.
-fn dense(n: usize, p: usize) -> Shape
-    ensures { λ r. ⌜ r ≡ def.denseShape n p ⌝ }
-{
-    Shape {
-        layout: Layout::Dense,
-        n: n,
-        p: p,
-    }
-}
-
-fn csc(n: usize, p: usize) -> Shape
-    ensures { λ r. ⌜ r ≡ def.cscShape n p ⌝ }
-{
-    Shape {
-        layout: Layout::Csc,
-        n: n,
-        p: p,
-    }
-}
-
 // ---- whole calls
-
-// A code that is no penalty's gives one that the settings' test refuses: its alpha is NaN.
-fn penalty_of(code: u32, alpha: f64, second: f64) -> Penalty
-    ensures { λ r. ⌜ r ≡ codes.penaltyOf code alpha second ⌝ }
-{
-    if code == 0 {
-        return Penalty::L1 { alpha: alpha };
-    }
-    if code == 1 {
-        return Penalty::L1PlusL2 {
-            alpha: alpha,
-            l1_ratio: second,
-        };
-    }
-    if code == 2 {
-        return Penalty::MCP {
-            alpha: alpha,
-            gamma: second,
-        };
-    }
-    Penalty::L1 { alpha: 0.0 / 0.0 }
-}
-
-fn settings_of(
-    penalty: u32,
-    alpha: f64,
-    second: f64,
-    tolerance: f64,
-    start: usize,
-    iterations: usize,
-    epochs: usize,
-    extrapolate: u32,
-    depth: usize,
-) -> Settings
-    ensures { λ r. ⌜ r ≡ codes.settingsOf penalty alpha second tolerance start iterations epochs extrapolate depth ⌝ }
-{
-    Settings {
-        penalty: penalty_of(penalty, alpha, second),
-        tolerance: tolerance,
-        start: start,
-        iterations: iterations,
-        epochs: epochs,
-        extrapolate: extrapolate != 0,
-        depth: depth,
-    }
-}
-
-// A fit's answer in the caller's numbers. A refusal writes none of the report's.
-fn tell(
-    done: Fit,
-    status: &mut u32,
-    violation: &mut f64,
-    sets: &mut usize,
-    passes: &mut usize,
-    accepted: &mut usize,
-    place: &mut usize,
-) -> u32
-    ensures { λ r. ⌜ (r ≡ codes.numberOfFit (call.fitOf done))
-        × (now (place .exit) ≡ codes.placeOfFit (call.fitOf done))
-        × (codes.report (now (status .exit)) (now (violation .exit)) (now (sets .exit)) (now (passes .exit)) (now (accepted .exit)) ≡ codes.reported (call.fitOf done) (codes.report (now (status .entry)) (now (violation .entry)) (now (sets .entry)) (now (passes .entry)) (now (accepted .entry)))) ⌝ }
-{
-    match done {
-        Fit::Refused(refusal) => {
-            *place = refusal.place;
-            refusal.number
-        }
-        Fit::Done(report) => {
-            *status = report.status;
-            *violation = report.violation;
-            *sets = report.iterations;
-            *passes = report.epochs;
-            *accepted = report.extrapolations;
-            *place = 0;
-            0
-        }
-    }
-}
 
 // solvers::coordinate_descent of a dense design. `penalty` is 0 for L1, 1 for L1PlusL2 (`second` is its ratio), 2 for MCP (`second` is its
 // gamma); `extrapolate` is 0 for off. The report is left in `status`, `violation`, `sets` (its iterations: working sets built), `passes`
@@ -265,39 +164,11 @@ pub extern "C" fn koyramutey_full_grad_dense(
         × (now (grad .exit) ≡ calls.fullGrad (def.denseShape n p) def.nothing def.nothing (now (values .entry)) (now (prepared .entry)) (now (fit .entry)) (now (grad .entry))) ⌝ }
 {
     let none = [0u32; 0];
-    match datafits::full_grad(dense(n, p), &none, &none, values, prepared, fit, grad) {
-        Verdict::Fine => {
-            *place = 0;
-            0
-        }
-        Verdict::Refused(r) => {
-            *place = r.place;
-            r.number
-        }
-    }
+    let verdict = datafits::full_grad(dense(n, p), &none, &none, values, prepared, fit, grad);
+    tell_verdict(verdict, place)
 }
 
 // ---- one column: for callers that have checked their design. Only sizes are tested, so a call costs no more than its column.
-
-// 1 and 3, where the list that the column meets has so many places.
-fn admit_column(n: usize, p: usize, values: &[f64], column: usize, places: usize) -> Verdict
-    ensures { λ r. ⌜ verdictOf r ≡ kernels.kernelFault n p (now (values .entry)) column places ⌝ }
-{
-    let none = [0u32; 0];
-    if both(sizes_agree(dense(n, p), &none, &none, values), column < p) {
-        if n <= places {
-            return Verdict::Fine;
-        }
-        return Verdict::Refused(Refusal {
-            number: 3,
-            place: 0,
-        });
-    }
-    Verdict::Refused(Refusal {
-        number: 1,
-        place: 0,
-    })
-}
 
 // The product of a column and v.
 #[no_mangle]
@@ -315,17 +186,12 @@ pub extern "C" fn koyramutey_column_product_dense(
         × (now (product .exit) ≡ kernels.productLeft n p (now (values .entry)) column (now (v .entry)) (now (product .entry))) ⌝ }
 {
     let none = [0u32; 0];
-    match admit_column(n, p, values, column, v.len()) {
-        Verdict::Refused(fault) => {
-            *place = fault.place;
-            fault.number
-        }
-        Verdict::Fine => {
-            *product = column_dot(dense(n, p), &none, &none, values, Feature(column), v);
-            *place = 0;
-            0
-        }
+    let verdict = admit_column(n, p, values, column, v.len());
+    let number = tell_verdict(verdict, place);
+    if let Verdict::Fine = verdict {
+        *product = column_dot(dense(n, p), &none, &none, values, Feature(column), v);
     }
+    number
 }
 
 // The fit gains `difference` times a column.
@@ -344,23 +210,18 @@ pub extern "C" fn koyramutey_column_update_dense(
         × (now (fit .exit) ≡ kernels.updateLeft n p (now (values .entry)) column difference (now (fit .entry))) ⌝ }
 {
     let none = [0u32; 0];
-    match admit_column(n, p, values, column, fit.len()) {
-        Verdict::Refused(fault) => {
-            *place = fault.place;
-            fault.number
-        }
-        Verdict::Fine => {
-            column_update(
-                dense(n, p),
-                &none,
-                &none,
-                values,
-                Feature(column),
-                difference,
-                fit,
-            );
-            *place = 0;
-            0
-        }
+    let verdict = admit_column(n, p, values, column, fit.len());
+    let number = tell_verdict(verdict, place);
+    if let Verdict::Fine = verdict {
+        column_update(
+            dense(n, p),
+            &none,
+            &none,
+            values,
+            Feature(column),
+            difference,
+            fit,
+        );
     }
+    number
 }

@@ -1,8 +1,8 @@
 -- `koyramutey_column_update_dense`: the tests, then the column. Assumes nothing.
-use mathlib.Core.Path.{ap}
-use Rattle.designs.proofs.Laws.Passed.{stop, pass}
-use Rattle.exports.specs.Codes.{numberOfFault, placeOfFault}
-use Rattle.exports.proofs.Laws.Kernels.{ready, update-told, update-kept}
+use mathlib.Core.Path.{refl}
+use Rattle.designs.proofs.Laws.Passed.{stop-left, pass}
+use Rattle.codes.specs.Kernels.{updateLeft}
+use Rattle.codes.proofs.Laws.Kernels.{ready, update-told}
 use borrow.Author.Needs.{needs}
 use Rattle.exports.proofs.koyramutey_column_update_dense.Statement.{statement}
 use Rattle.exports.proofs.koyramutey_column_update_dense.Tie as tie
@@ -10,8 +10,8 @@ use Rattle.exports.proofs.koyramutey_column_update_dense.Tie as tie
 admit-column-requires : tie.Need-admit-column-requires
 admit-column-requires c κs = search needs
 
-enum-known-fault : tie.Need-enum-known-fault
-enum-known-fault c = search needs
+tell-verdict-requires : tie.Need-tell-verdict-requires
+tell-verdict-requires c κs = search needs
 
 enum-told : tie.Need-enum-told
 enum-told c = search needs
@@ -26,28 +26,33 @@ slice-aggregate-column-update-2 : tie.Need-slice-aggregate-column-update-2
 slice-aggregate-column-update-2 c = search needs
 
 column-update-requires : tie.Need-column-update-requires
-column-update-requires c κs = ready _ _ _ _ _ (c .before .before .before .dense .ensures) _ (pass _ (c .before .before .before .before .before .before .admit-column .ensures) (c .before .before .before .before .enum-told .given .1))
+column-update-requires c κs = ready _ _ _ _ _ (c .before .before .before .dense .ensures) _ (pass _ (c .before .before .before .before .before .before .before .before .admit-column .ensures) (c .before .before .before .before .enum-told .given .1))
 
-returns : tie.Need-returns
-returns c = let e = stop _ (c .before .before .before .admit-column .ensures) _ (c .before .fault .given .1) in (ap numberOfFault e, ap placeOfFault e, update-kept _ _ _ _ _ _ _ _ e)
+enum-told-2 : tie.Need-enum-told-2
+enum-told-2 c = search needs
 
 same-length : tie.Need-same-length
 same-length c = search needs
 
+returns : tie.Need-returns
+returns c = let e = c .before .before .before .before .before .before .before .before .before .before .before .admit-column .ensures in let t = c .before .before .before .before .before .before .before .before .before .tell-verdict .ensures in rw (← e) (t .0, t .1, update-told _ _ _ _ _ (c .before .before .before .before .before .before .dense .ensures) _ _ _ (pass _ e (c .before .before .before .before .before .before .before .enum-told .given .1)) (c .before .before .column-update .ensures))
+
 returns-2 : tie.Need-returns-2
-returns-2 c = let e = pass _ (c .before .before .before .before .before .before .before .before .before .admit-column .ensures) (c .before .before .before .before .before .before .before .enum-told .given .1) in (ap numberOfFault e, ap placeOfFault e, update-told _ _ _ _ _ (c .before .before .before .before .before .before .dense .ensures) _ _ _ e (c .before .before .column-update .ensures))
+unfolding updateLeft
+returns-2 c = let e = c .before .before .before .before .admit-column .ensures in let t = c .before .before .tell-verdict .ensures in rw (← e) (t .0, t .1, stop-left _ refl _ _ _ (c .enum-told2 .given .1))
 
 pub koyramutey-column-update-dense-spec : {M : Type 1} → statement M
 koyramutey-column-update-dense-spec =
     tie.close
     (tie.spec
     admit-column-requires
-    enum-known-fault
+    tell-verdict-requires
     enum-told
     dense-requires
     slice-aggregate-column-update
     slice-aggregate-column-update-2
     column-update-requires
-    returns
+    enum-told-2
     same-length
+    returns
     returns-2)

@@ -1,7 +1,4 @@
 -- `koyramutey_full_grad_dense`: the verdict as two numbers. Assumes nothing.
-use mathlib.Core.Path.{ap}
-use Rattle.designs.proofs.Laws.Passed.{stop, pass}
-use Rattle.exports.specs.Codes.{numberOfFault, placeOfFault}
 use borrow.Author.Needs.{needs}
 use Rattle.exports.proofs.koyramutey_full_grad_dense.Statement.{statement}
 use Rattle.exports.proofs.koyramutey_full_grad_dense.Tie as tie
@@ -18,23 +15,14 @@ slice-aggregate-full-grad-2 c = search needs
 full-grad-requires : tie.Need-full-grad-requires
 full-grad-requires c κs = search needs
 
-enum-told : tie.Need-enum-told
-enum-told c = search needs
-
-enum-known-r : tie.Need-enum-known-r
-enum-known-r c = search needs
+tell-verdict-requires : tie.Need-tell-verdict-requires
+tell-verdict-requires c κs = search needs
 
 same-length : tie.Need-same-length
 same-length c = search needs
 
 returns : tie.Need-returns
-returns c = let e = pass _ (c .before .before .before .before .full-grad .ensures .0) (c .enum-told .given .1) in rw (← c .before .before .before .before .before .before .before .before .dense .ensures) (ap numberOfFault e, ap placeOfFault e, c .before .before .before .before .full-grad .ensures .1)
-
-same-length-2 : tie.Need-same-length-2
-same-length-2 c = search needs
-
-returns-2 : tie.Need-returns-2
-returns-2 c = let e = stop _ (c .before .before .before .before .before .full-grad .ensures .0) _ (c .before .r .given .1) in rw (← c .before .before .before .before .before .before .before .before .before .dense .ensures) (ap numberOfFault e, ap placeOfFault e, c .before .before .before .before .before .full-grad .ensures .1)
+returns c = let h = c .before .before .before .before .full-grad .ensures in rw (← c .before .before .before .before .before .before .before .before .dense .ensures, ← h .0) (c .tell-verdict .ensures .0, c .tell-verdict .ensures .1, h .1)
 
 pub koyramutey-full-grad-dense-spec : {M : Type 1} → statement M
 koyramutey-full-grad-dense-spec =
@@ -44,9 +32,6 @@ koyramutey-full-grad-dense-spec =
     slice-aggregate-full-grad
     slice-aggregate-full-grad-2
     full-grad-requires
-    enum-told
-    enum-known-r
+    tell-verdict-requires
     same-length
-    returns
-    same-length-2
-    returns-2)
+    returns)

@@ -1,3 +1,2 @@
 -- Laws that belong to no one function.
-pub mod Codes
-pub mod Kernels
+pub mod Laws

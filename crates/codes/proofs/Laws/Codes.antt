@@ -16,7 +16,7 @@ use Rattle.runs.specs.declared.Fit.{Fit}
 use Rattle.runs.specs.declared.Fit.the-variants as Fit
 use Rattle.runs.specs.declared.Report.{Report}
 use Rattle.runs.specs.declared.Settings.{Settings}
-use Rattle.exports.specs.Codes.{numberOfFit, placeOfFit, reported, penaltyOf, settingsOf}
+use Rattle.codes.specs.Codes.{numberOfFit, placeOfFit, reported, penaltyOf, settingsOf}
 
 -- ---- the arms of a match on the answer
 pub refused-told : (d : Fit) (r : Refusal) (old : Report) → d ≡ Fit.Refused r → (r .number ≡ numberOfFit (fitOf d)) × (r .place ≡ placeOfFit (fitOf d)) × (old ≡ reported (fitOf d) old)

@@ -1,8 +1,8 @@
 -- `admit_column`: the tests in their turn. Assumes nothing.
-use Rattle.exports.proofs.Laws.Kernels.{fine, short, wrong}
+use Rattle.codes.proofs.Laws.Kernels.{fine, short, wrong}
 use borrow.Author.Needs.{needs}
-use Rattle.exports.proofs.admit_column.Statement.{statement}
-use Rattle.exports.proofs.admit_column.Tie as tie
+use Rattle.codes.proofs.admit_column.Statement.{statement}
+use Rattle.codes.proofs.admit_column.Tie as tie
 
 dense-requires : tie.Need-dense-requires
 dense-requires c κs = search needs

@@ -1,9 +1,9 @@
 -- `penalty_of`: by the code. Assumes nothing.
 use lib.Ieee.{div, ofBits}
 use borrow.Author.Tests.{eq-eqb, ne-eqb}
-use Rattle.exports.specs.Codes.{penaltyOf}
-use Rattle.exports.proofs.penalty_of.Statement.{statement}
-use Rattle.exports.proofs.penalty_of.Tie as tie
+use Rattle.codes.specs.Codes.{penaltyOf}
+use Rattle.codes.proofs.penalty_of.Statement.{statement}
+use Rattle.codes.proofs.penalty_of.Tie as tie
 
 returns : tie.Need-returns
 unfolding penaltyOf

@@ -1,8 +1,8 @@
 -- `tell`: by the answer's case. Assumes nothing.
-use Rattle.exports.proofs.Laws.Codes.{refused-told, done-told}
+use Rattle.codes.proofs.Laws.Codes.{refused-told, done-told}
 use borrow.Author.Needs.{needs}
-use Rattle.exports.proofs.tell.Statement.{statement}
-use Rattle.exports.proofs.tell.Tie as tie
+use Rattle.codes.proofs.tell.Statement.{statement}
+use Rattle.codes.proofs.tell.Tie as tie
 
 enum-known-done : tie.Need-enum-known-done
 enum-known-done c = search needs

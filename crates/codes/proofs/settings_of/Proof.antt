@@ -1,8 +1,8 @@
 -- `settings_of`: each number in its place. Assumes nothing.
-use Rattle.exports.specs.Codes.{settingsOf}
+use Rattle.codes.specs.Codes.{settingsOf}
 use borrow.Author.Needs.{needs}
-use Rattle.exports.proofs.settings_of.Statement.{statement}
-use Rattle.exports.proofs.settings_of.Tie as tie
+use Rattle.codes.proofs.settings_of.Statement.{statement}
+use Rattle.codes.proofs.settings_of.Tie as tie
 
 penalty-of-requires : tie.Need-penalty-of-requires
 penalty-of-requires c κs = search needs

@@ -15,7 +15,7 @@ use Rattle.designs.specs.Design.{design, denseShape, nothing, laid, dot, moved}
 use Rattle.designs.specs.Sound.{Held, Whole}
 use Rattle.designs.specs.declared.Shape.{Shape}
 use Rattle.designs.proofs.Laws.Passed.{sized, spared, dense-values}
-use Rattle.exports.specs.Kernels.{kernelFault, productLeft, updateLeft}
+use Rattle.codes.specs.Kernels.{kernelFault, productLeft, updateLeft}
 
 module _ (n p : ℕ) (values : List Float) (column : ℕ) (s : Shape) (hs : s ≡ denseShape n p) where
   -- the code's tests t, of which z is that of the sizes
@@ -54,14 +54,3 @@ module _ (n p : ℕ) (values : List Float) (column : ℕ) (s : Shape) (hs : s �
       → x ≡ moved (design s nothing nothing values) column d fit → x ≡ updateLeft n p values column d fit
   unfolding updateLeft laid
   update-told d fit x e h = rw (← e) (rw hs at h)
-
-module _ (n p : ℕ) (values : List Float) (column number place : ℕ) where
-  pub product-kept : (v : List Float) (old : Float) → fault number place ≡ kernelFault n p values column (length v)
-      → old ≡ productLeft n p values column v old
-  unfolding productLeft
-  product-kept v old e = rw (← e)
-
-  pub update-kept : (d : Float) (fit : List Float) → fault number place ≡ kernelFault n p values column (length fit)
-      → fit ≡ updateLeft n p values column d fit
-  unfolding updateLeft
-  update-kept d fit e = rw (← e)

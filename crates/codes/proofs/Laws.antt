@@ -1,0 +1,3 @@
+-- Laws on the definitions of specs/.
+pub mod Codes
+pub mod Kernels

@@ -1,0 +1,150 @@
+// Settings, refusals and reports as plain numbers, for the calls from other languages, and the test of one column.
+ghost use mathlib.Core.Path.{_≡_};
+ghost use Rattle.designs.specs.Checks.{verdictOf};
+ghost use Rattle.designs.specs.Design as def;
+ghost use Rattle.runs.specs.Call as call;
+ghost use Rattle.codes.specs.Codes as codes;
+ghost use Rattle.codes.specs.Kernels as kernels;
+use designs::Layout;
+use designs::Shape;
+use designs::Verdict;
+use designs::checks::both;
+use designs::checks::sizes_agree;
+use leaves::Refusal;
+use leaves::penalties::separable::Penalty;
+use runs::Fit;
+use runs::Settings;
+
+// The shape of a dense design, and below that of a CSC one.
+pub fn dense(n: usize, p: usize) -> Shape
+    ensures { λ r. ⌜ r ≡ def.denseShape n p ⌝ }
+{
+    Shape {
+        layout: Layout::Dense,
+        n: n,
+        p: p,
+    }
+}
+
+pub fn csc(n: usize, p: usize) -> Shape
+    ensures { λ r. ⌜ r ≡ def.cscShape n p ⌝ }
+{
+    Shape {
+        layout: Layout::Csc,
+        n: n,
+        p: p,
+    }
+}
+
+// A code that is no penalty's gives one that the settings' test refuses: its alpha is NaN.
+pub fn penalty_of(code: u32, alpha: f64, second: f64) -> Penalty
+    ensures { λ r. ⌜ r ≡ codes.penaltyOf code alpha second ⌝ }
+{
+    if code == 0 {
+        return Penalty::L1 { alpha: alpha };
+    }
+    if code == 1 {
+        return Penalty::L1PlusL2 {
+            alpha: alpha,
+            l1_ratio: second,
+        };
+    }
+    if code == 2 {
+        return Penalty::MCP {
+            alpha: alpha,
+            gamma: second,
+        };
+    }
+    Penalty::L1 { alpha: 0.0 / 0.0 }
+}
+
+pub fn settings_of(
+    penalty: u32,
+    alpha: f64,
+    second: f64,
+    tolerance: f64,
+    start: usize,
+    iterations: usize,
+    epochs: usize,
+    extrapolate: u32,
+    depth: usize,
+) -> Settings
+    ensures { λ r. ⌜ r ≡ codes.settingsOf penalty alpha second tolerance start iterations epochs extrapolate depth ⌝ }
+{
+    Settings {
+        penalty: penalty_of(penalty, alpha, second),
+        tolerance: tolerance,
+        start: start,
+        iterations: iterations,
+        epochs: epochs,
+        extrapolate: extrapolate != 0,
+        depth: depth,
+    }
+}
+
+// A fit's answer in the caller's numbers. A refusal writes none of the report's.
+pub fn tell(
+    done: Fit,
+    status: &mut u32,
+    violation: &mut f64,
+    sets: &mut usize,
+    passes: &mut usize,
+    accepted: &mut usize,
+    place: &mut usize,
+) -> u32
+    ensures { λ r. ⌜ (r ≡ codes.numberOfFit (call.fitOf done))
+        × (now (place .exit) ≡ codes.placeOfFit (call.fitOf done))
+        × (codes.report (now (status .exit)) (now (violation .exit)) (now (sets .exit)) (now (passes .exit)) (now (accepted .exit)) ≡ codes.reported (call.fitOf done) (codes.report (now (status .entry)) (now (violation .entry)) (now (sets .entry)) (now (passes .entry)) (now (accepted .entry)))) ⌝ }
+{
+    match done {
+        Fit::Refused(refusal) => {
+            *place = refusal.place;
+            refusal.number
+        }
+        Fit::Done(report) => {
+            *status = report.status;
+            *violation = report.violation;
+            *sets = report.iterations;
+            *passes = report.epochs;
+            *accepted = report.extrapolations;
+            *place = 0;
+            0
+        }
+    }
+}
+
+// A verdict in the caller's numbers.
+pub fn tell_verdict(verdict: Verdict, place: &mut usize) -> u32
+    ensures { λ r. ⌜ (r ≡ codes.numberOfFault (verdictOf verdict)) × (now (place .exit) ≡ codes.placeOfFault (verdictOf verdict)) ⌝ }
+{
+    match verdict {
+        Verdict::Fine => {
+            *place = 0;
+            0
+        }
+        Verdict::Refused(r) => {
+            *place = r.place;
+            r.number
+        }
+    }
+}
+
+// 1 and 3, where the list that the column meets has so many places.
+pub fn admit_column(n: usize, p: usize, values: &[f64], column: usize, places: usize) -> Verdict
+    ensures { λ r. ⌜ verdictOf r ≡ kernels.kernelFault n p (now (values .entry)) column places ⌝ }
+{
+    let none = [0u32; 0];
+    if both(sizes_agree(dense(n, p), &none, &none, values), column < p) {
+        if n <= places {
+            return Verdict::Fine;
+        }
+        return Verdict::Refused(Refusal {
+            number: 3,
+            place: 0,
+        });
+    }
+    Verdict::Refused(Refusal {
+        number: 1,
+        place: 0,
+    })
+}
