@@ -3,13 +3,11 @@
 ghost use mathlib.Core.Path.{_≡_};
 ghost use Prim.Native.Nat.{ℕ, suc, _+_, _*_, _<_, _≤_};
 ghost use lib.Ieee.{lt};
-ghost use lib.ListN.{length, getD, take, drop};
+ghost use lib.ListN.{length, getD, take};
 ghost use Rattle.doubles.specs.Num as num;
 ghost use Rattle.doubles.specs.Steps.{sum};
 ghost use Rattle.doubles.specs.Buffer.{put};
 ghost use Rattle.designs.specs.Design as def;
-ghost use Rattle.designs.specs.Sound.{Whole};
-ghost use Rattle.runs.specs.Epoch.{task};
 ghost use Rattle.runs.specs.Extrapolation as ext;
 ghost use Rattle.anderson.specs.Places as places;
 use columns::all_finite;

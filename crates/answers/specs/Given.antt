@@ -4,7 +4,7 @@ use Prim.Native.Nat.{ℕ, _≤_}
 use lib.ListN.{take}
 use lib.Ieee.{Float}
 use Rattle.files.specs.Call.{Problem}
-use Rattle.leaves.specs.Answer.{answered}
+use Rattle.doubles.specs.Answer.{answered}
 use Rattle.files.specs.declared.Sizes.{Sizes}
 use Rattle.answers.specs.Printed.{printedFor}
 

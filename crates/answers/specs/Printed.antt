@@ -5,7 +5,7 @@ use lib.Dec.{leb}
 use lib.ListN.{length, take, replicate}
 use Rattle.doubles.specs.Num.{#0, pick}
 use Rattle.doubles.specs.Buffer.{put}
-use Rattle.leaves.specs.Answer.{Outcome, refused, answered}
+use Rattle.doubles.specs.Answer.{Outcome, refused, answered}
 use Rattle.runs.specs.Call.{Lent, fitCall, fitLeft}
 use Rattle.runs.specs.declared.Report.{Report}
 use Rattle.files.specs.Call.{Problem, parsed}

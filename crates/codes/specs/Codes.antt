@@ -4,7 +4,7 @@ use mathlib.Core.Bool.{not}
 use lib.Dec.{eqb}
 use lib.Ieee.{Float, nan}
 use Rattle.doubles.specs.Num.{pick}
-use Rattle.leaves.specs.Answer.{Outcome, refused, answered}
+use Rattle.doubles.specs.Answer.{Outcome, refused, answered}
 use Rattle.leaves.specs.declared.penalties.separable.Penalty.{Penalty}
 use Rattle.leaves.specs.declared.penalties.separable.Penalty.the-variants.{L1, L1PlusL2, MCP}
 use Rattle.designs.specs.Checks.{Fault, none, fault}

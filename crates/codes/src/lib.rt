@@ -10,7 +10,7 @@ use designs::Shape;
 use designs::Verdict;
 use designs::checks::both;
 use designs::checks::sizes_agree;
-use leaves::Refusal;
+use doubles::Refusal;
 use leaves::penalties::separable::Penalty;
 use runs::Fit;
 use runs::Settings;

@@ -2,9 +2,8 @@
 -- it: of the arguments, the result and the parameters at exit. Assumes nothing.
 use mathlib.Core.Path.{_≡_}
 use denote.Ref.{now}
-use Rattle.doubles.proofs.Tight.{coincide}
-use Rattle.leaves.specs.declared.Number.{Number}
-use Rattle.leaves.proofs.Tight.{one-number}
+use Rattle.doubles.proofs.Tight.{coincide, one-number}
+use Rattle.doubles.specs.declared.Number.{Number}
 use Rattle.designs.specs.declared.Verdict.{Verdict}
 use Rattle.designs.proofs.Tight.{one-verdict}
 use Rattle.datafits.proofs.initialize.Reads as initialize-reads

@@ -9,7 +9,7 @@ use lib.Ieee.{Float}
 use Rattle.doubles.specs.Num.{at, _and_}
 use Rattle.doubles.specs.Steps.{all}
 use Rattle.doubles.specs.Buffer.{put}
-use Rattle.leaves.specs.Answer.{Outcome}
+use Rattle.doubles.specs.Answer.{Outcome}
 use Rattle.designs.specs.Design.{design, prepared, gradient, fullGradient, datafit, alphaMax, dots, moved, extrapolated}
 use Rattle.designs.specs.Checks.{Fault, unless, numbers, admitted, after, left}
 use Rattle.designs.specs.declared.Shape.{Shape}

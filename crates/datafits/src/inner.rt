@@ -1,11 +1,11 @@
 // What the public calls share: the tests of a room and of a list of features, and alpha_max over either layout.
 ghost use mathlib.Core.Path.{_≡_};
-ghost use Rattle.leaves.specs.Answer.{numberOf};
+ghost use Rattle.doubles.specs.Answer.{numberOf};
 ghost use Rattle.datafits.specs.Calls as calls;
 use designs::Shape;
 use designs::Verdict;
 use designs::checks::admit;
-use leaves::Number;
+use doubles::Number;
 
 // Whether a buffer has 2p places. (2p itself may be more than a usize holds.)
 pub fn room_twice(p: usize, buf: &[f64]) -> bool

@@ -1,8 +1,7 @@
 // The quadratic datafit over a design in either layout: the public calls. Each tests its input first and refuses with document 01's number
 // and place; refused, it changes no lent buffer. `prepared` is what the Rust's Quadratic holds: p Lipschitz constants, then the p entries of X'y.
 ghost use mathlib.Core.Path.{_≡_};
-ghost use lib.ListN.{length};
-ghost use Rattle.leaves.specs.Answer.{numberOf};
+ghost use Rattle.doubles.specs.Answer.{numberOf};
 ghost use Rattle.designs.specs.Design as def;
 ghost use Rattle.designs.specs.Checks.{verdictOf};
 ghost use Rattle.datafits.specs.Calls as calls;
@@ -12,8 +11,8 @@ use designs::Shape;
 use designs::Verdict;
 use designs::checks::admit;
 use designs::checks::both;
-use leaves::Number;
-use leaves::Refusal;
+use doubles::Number;
+use doubles::Refusal;
 
 pub mod inner;
 
@@ -113,7 +112,7 @@ pub fn value(y: &[f64], fit: &[f64]) -> Number
 }
 
 fn refused(number: u32) -> Number
-    ensures { λ r. ⌜ numberOf r ≡ Rattle.leaves.specs.Answer.refused number 0 ⌝ }
+    ensures { λ r. ⌜ numberOf r ≡ Rattle.doubles.specs.Answer.refused number 0 ⌝ }
 {
     Number::Refused(Refusal {
         number: number,

@@ -1,7 +1,6 @@
 -- Any two outcomes that a public promise allows coincide. `Post` is the promise as the check reads it. Assumes nothing.
 use mathlib.Core.Path.{_≡_, refl, ap}
-use Rattle.doubles.proofs.Tight.{coincide}
-use Rattle.leaves.proofs.Tight.{same-refusal}
+use Rattle.doubles.proofs.Tight.{coincide, same-refusal}
 use Rattle.designs.specs.Checks.{verdictOf}
 use Rattle.designs.specs.declared.Verdict.{Verdict}
 use Rattle.designs.specs.declared.Verdict.the-variants as Verdict

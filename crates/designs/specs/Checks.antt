@@ -6,7 +6,7 @@ use lib.Dec.{leb, ltb, eqb}
 use lib.ListN.{length, getD}
 use lib.Ieee.{Float}
 use Rattle.doubles.specs.Num.{at, finite, pick, _and_, _or_}
-use Rattle.leaves.specs.Answer.{Outcome, refused, answered}
+use Rattle.doubles.specs.Answer.{Outcome, refused, answered}
 use Rattle.designs.specs.Search.{firstOf, mark}
 use Rattle.designs.specs.declared.Found.{Found}
 use Rattle.designs.specs.declared.Found.the-variants.{At, Nowhere}

@@ -10,8 +10,8 @@ use crate::Found;
 use crate::Layout;
 use crate::Shape;
 use crate::Verdict;
+use doubles::Refusal;
 use doubles::is_finite;
-use leaves::Refusal;
 
 // a and b, as values: a test that a caller made is not known any more behind `&&`.
 pub fn both(a: bool, b: bool) -> bool

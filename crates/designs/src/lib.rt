@@ -2,7 +2,7 @@
 // and for CSC the column starts and the row of each stored value; a dense design has no starts and no rows, and lies row by row.
 ghost use mathlib.Core.Path.{_≡_};
 ghost use Rattle.designs.specs.Checks as checks';
-use leaves::Refusal;
+use doubles::Refusal;
 
 pub mod checks;
 

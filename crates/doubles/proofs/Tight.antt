@@ -1,8 +1,12 @@
 -- Any two outcomes that a public promise allows coincide. `Post` is the promise as the check reads it: of the arguments, the result and
--- what the parameters are at exit. Assumes nothing.
-use mathlib.Core.Path.{_≡_, sym, _∙_}
+-- what the parameters are at exit. A reading of an enum by cases loses nothing, so it is enough that the readings coincide. Assumes nothing.
+use mathlib.Core.Path.{_≡_, sym, ap, _∙_}
 use mathlib.Core.Bool.{Bool}
 use lib.Ieee.{Float}
+use Rattle.doubles.specs.Answer.{Outcome, refused, numberOf}
+use Rattle.doubles.specs.declared.Refusal.{Refusal}
+use Rattle.doubles.specs.declared.Number.{Number}
+use Rattle.doubles.specs.declared.Number.the-variants as Number
 use Rattle.doubles.proofs.abs.Reads as abs-reads
 use Rattle.doubles.proofs.signum.Reads as signum-reads
 use Rattle.doubles.proofs.is_finite.Reads as is-finite-reads
@@ -13,6 +17,20 @@ use Rattle.doubles.proofs.double.Reads as double-reads
 pub coincide : {A : Type 0} {x y z : A} → x ≡ z → y ≡ z → x ≡ y
 coincide p q = p ∙ sym q
 
+-- ---- a reading loses nothing
+pub same-refusal : {a b : Refusal} → a .number ≡ b .number → a .place ≡ b .place → a ≡ b
+same-refusal p q = λ i. record { number = p i; place = q i }
+
+pub one-refusal : {A : Type 0} (a b : Refusal) → _≡_ {A = Outcome A} (refused (a .number) (a .place)) (refused (b .number) (b .place)) → a ≡ b
+one-refusal a b e = same-refusal (cc) (cc)
+
+pub one-number : (a b : Number) → numberOf a ≡ numberOf b → a ≡ b
+one-number (Number.Refused r) (Number.Refused s) e = ap Number.Refused (one-refusal r s e)
+one-number (Number.Refused r) (Number.Is y) e = cc
+one-number (Number.Is x) (Number.Refused s) e = cc
+one-number (Number.Is x) (Number.Is y) e = cc
+
+-- ---- the public calls
 abs-tight : (a : _) (r r' : Float) (s : _) → abs-reads.Post tt a r s → abs-reads.Post tt a r' s → r ≡ r'
 abs-tight a r r' s p q = coincide p q
 

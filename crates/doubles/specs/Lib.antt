@@ -1,5 +1,6 @@
--- What a reader believes of the doubles. The laws about these definitions are in proofs/Laws.
+-- What a reader believes of the doubles, and the words that all definitions and answers are made of. The laws about these definitions are in proofs/Laws.
 pub mod Num
 pub mod Steps
 pub mod Buffer
 pub mod Sign
+pub mod Answer

@@ -1,7 +1,20 @@
-// Functions of doubles that Rattle has no operator for. Each equals its definition (specs/Num.antt) on every double.
+// Functions of doubles that Rattle has no operator for: each equals its definition (specs/Num.antt) on every double. And what a call that
+// may refuse answers.
 ghost use mathlib.Core.Path.{_≡_};
 ghost use lib.Ieee.{binary64, ofBits};
 ghost use Rattle.doubles.specs.Num as num;
+
+// A refusal: document 01's number and place.
+pub struct Refusal {
+    pub number: u32,
+    pub place: usize,
+}
+
+// What a call that answers a double answers.
+pub enum Number {
+    Refused(Refusal),
+    Is(f64),
+}
 
 // |x|. The test for zero clears the sign of -0.0, which `x < 0.0` does not see.
 pub fn abs(x: f64) -> f64

@@ -12,7 +12,7 @@ use lib.Ieee.{Float, binary64}
 use lib.Ieee.Bits.{ofBits-fits}
 use borrow.Author.Tests.{le-leb, lt-leb, lt-ltb, eq-eqb, ne-eqb}
 use Rattle.doubles.specs.Num.{pick, _and_}
-use Rattle.leaves.specs.Answer.{answered}
+use Rattle.doubles.specs.Answer.{answered}
 use Rattle.leaves.specs.declared.penalties.separable.Penalty.{Penalty}
 use Rattle.leaves.specs.declared.penalties.separable.Penalty.the-variants.{L1, L1PlusL2, MCP}
 use Rattle.designs.specs.declared.Layout.{Layout}

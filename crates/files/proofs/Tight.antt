@@ -2,8 +2,7 @@
 -- reads it: of the arguments, the result and the parameters at exit. Assumes nothing.
 use mathlib.Core.Path.{_≡_, ap}
 use denote.Ref.{now}
-use Rattle.doubles.proofs.Tight.{coincide}
-use Rattle.leaves.proofs.Tight.{same-refusal}
+use Rattle.doubles.proofs.Tight.{coincide, same-refusal}
 use Rattle.files.specs.Call.{Places, parsedOf}
 use Rattle.files.specs.declared.Parsed.{Parsed}
 use Rattle.files.specs.declared.Parsed.the-variants as Parsed

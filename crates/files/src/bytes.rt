@@ -1,6 +1,6 @@
 // Numbers in a byte slice, little-endian.
 ghost use mathlib.Core.Path.{_≡_};
-ghost use Prim.Native.Nat.{ℕ, _+_, _*_, _≤_, _<_};
+ghost use Prim.Native.Nat.{_+_, _*_, _≤_, _<_};
 ghost use lib.ListN.{length};
 ghost use Rattle.doubles.specs.Buffer.{put};
 ghost use Rattle.files.specs.Bytes as def;

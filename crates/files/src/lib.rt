@@ -3,7 +3,7 @@ ghost use mathlib.Core.Path.{_≡_};
 ghost use mathlib.Core.Bool.{true};
 ghost use Prim.Native.Nat.{_+_, _≤_};
 ghost use lib.ListN.{length};
-ghost use Rattle.leaves.specs.Answer.{refused as refused'};
+ghost use Rattle.doubles.specs.Answer.{refused as refused'};
 ghost use Rattle.files.specs.Problem as def;
 ghost use Rattle.files.specs.Call as call;
 ghost use Rattle.files.specs.Places as here;
@@ -14,7 +14,7 @@ use crate::bytes::u16_at;
 use crate::bytes::u32_at;
 use designs::Layout;
 use designs::Shape;
-use leaves::Refusal;
+use doubles::Refusal;
 use leaves::penalties::separable::Penalty;
 use runs::Settings;
 

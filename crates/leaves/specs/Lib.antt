@@ -1,5 +1,4 @@
 -- What a reader believes of the leaves, in document 01's order.
-pub mod Answer
 pub mod Soft
 pub mod Penalty
 pub mod Odd

@@ -2,8 +2,7 @@
 -- it: of the arguments, the result and the parameters at exit. Assumes nothing.
 use mathlib.Core.Path.{_≡_, ap}
 use denote.Ref.{now}
-use Rattle.doubles.proofs.Tight.{coincide}
-use Rattle.leaves.proofs.Tight.{same-refusal}
+use Rattle.doubles.proofs.Tight.{coincide, same-refusal}
 use Rattle.listings.specs.Call.{writtenOf}
 use Rattle.listings.specs.declared.Written.{Written}
 use Rattle.listings.specs.declared.Written.the-variants as Written

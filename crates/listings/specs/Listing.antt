@@ -9,7 +9,7 @@ use lib.Ieee.{Float, binary64, isNan, toBits}
 use Rattle.doubles.specs.Num.{at, pick}
 use Rattle.doubles.specs.Steps.{steps}
 use Rattle.io.specs.Digits.{digits}
-use Rattle.leaves.specs.Answer.{Outcome, refused, answered}
+use Rattle.doubles.specs.Answer.{Outcome, refused, answered}
 use Rattle.runs.specs.declared.Report.{Report}
 
 -- the bytes of a text

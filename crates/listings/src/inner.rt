@@ -5,7 +5,7 @@ ghost use lib.ListN.{length};
 ghost use Rattle.doubles.specs.Num.{_and_};
 ghost use Rattle.listings.specs.Listing as lines;
 ghost use Rattle.listings.specs.Wrote.{Room, Wrote};
-use leaves::Refusal;
+use doubles::Refusal;
 use runs::Report;
 
 // The program's sizes.

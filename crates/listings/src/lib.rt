@@ -1,10 +1,10 @@
 // The listing of a fit, or the line of its refusal, as bytes in a lent buffer.
 ghost use mathlib.Core.Path.{_≡_};
 ghost use lib.ListN.{length};
-ghost use Rattle.leaves.specs.Answer.{refused as refused'};
+ghost use Rattle.doubles.specs.Answer.{refused as refused'};
 ghost use Rattle.runs.specs.Call.{fitOf};
 ghost use Rattle.listings.specs.Call as calls;
-use leaves::Refusal;
+use doubles::Refusal;
 use runs::Fit;
 
 pub mod inner;

@@ -5,7 +5,7 @@ ghost use Prim.Native.Nat.{_+_, _≤_, _<_};
 ghost use lib.ListN.{length};
 use designs::Layout;
 use designs::Shape;
-use leaves::Refusal;
+use doubles::Refusal;
 use runs::Fit;
 use runs::Report;
 

@@ -9,7 +9,7 @@ use lib.Ieee.{Float, eq, le}
 use Rattle.doubles.specs.Num.{_⊘_, #0, #1, at, finite, pick, _and_, _or_}
 use Rattle.doubles.specs.Steps.{all, tab, Stage, going, stopped, bad}
 use Rattle.doubles.specs.Buffer.{put}
-use Rattle.leaves.specs.Answer.{Outcome, refused, answered}
+use Rattle.doubles.specs.Answer.{Outcome, refused, answered}
 use Rattle.leaves.specs.Penalty.{alphaLegal, legal}
 use Rattle.designs.specs.Design.{design, prepared}
 use Rattle.designs.specs.Checks.{Fault, none, fault, unless, sizes, admitted}

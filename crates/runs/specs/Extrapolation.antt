@@ -9,7 +9,7 @@ use lib.Ieee.{Float, lt}
 use Rattle.doubles.specs.Num.{_⊕_, _⊖_, _⊗_, _⊘_, #0, #1, at, finite, pick, _and_}
 use Rattle.doubles.specs.Steps.{steps, sum, tab, all}
 use Rattle.doubles.specs.Buffer.{put}
-use Rattle.leaves.specs.Answer.{Outcome, refused, answered}
+use Rattle.doubles.specs.Answer.{Outcome, refused, answered}
 use Rattle.systems.specs.Answer.{Ended, singular, solved}
 use Rattle.systems.specs.Elimination.{solveCall}
 use Rattle.leaves.specs.Penalty.{value}

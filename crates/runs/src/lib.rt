@@ -1,6 +1,6 @@
 // What a whole call is given and what it answers. The definition of the call stands in specs/: the crates that run it, the table of values and
 // the sign laws all cite it from here, so that an edit of the one does not open the others.
-use leaves::Refusal;
+use doubles::Refusal;
 use leaves::penalties::separable::Penalty;
 
 // The settings carry the penalty together with its own numbers.

@@ -19,7 +19,7 @@ use Rattle.designs.specs.Sound.{Rising, Held}
 use Rattle.designs.specs.declared.Layout.{Layout}
 use Rattle.designs.specs.declared.Layout.the-variants.{Dense, Csc}
 use Rattle.designs.specs.declared.Shape.{Shape}
-use Rattle.leaves.specs.Answer.{refused, answered}
+use Rattle.doubles.specs.Answer.{refused, answered}
 use Rattle.designs.specs.Checks.{none as no-fault}
 use Rattle.runs.specs.WorkingSet.{isZero}
 use Rattle.runs.specs.Run.{State}

@@ -10,7 +10,7 @@ use lib.Ieee.{Float}
 use Rattle.doubles.specs.Num.{_and_}
 use Rattle.doubles.specs.Steps.{Stage}
 use Rattle.doubles.specs.Sign.{Turned, Signs}
-use Rattle.leaves.specs.Answer.{answered}
+use Rattle.doubles.specs.Answer.{answered}
 use Rattle.leaves.specs.Odd.{Odd}
 use Rattle.leaves.proofs.Odd.{odd}
 use Rattle.designs.specs.Design.{Design, dense, csc, laid, design, prepared}

@@ -1,7 +1,6 @@
 -- Any two outcomes that the public promise allows coincide: a reading of an enum by cases loses nothing. Assumes nothing.
 use mathlib.Core.Path.{_≡_, refl, ap}
-use Rattle.doubles.proofs.Tight.{coincide}
-use Rattle.leaves.proofs.Tight.{one-refusal}
+use Rattle.doubles.proofs.Tight.{coincide, one-refusal}
 use Rattle.systems.specs.Answer.{endingOf, Eliminated, solutionOf}
 use Rattle.systems.specs.declared.utils.helpers.Ending.{Ending}
 use Rattle.systems.specs.declared.utils.helpers.Ending.the-variants as Ending

@@ -1,7 +1,7 @@
 -- What the answers of an elimination stand for.
 use mathlib.Core.List.{List}
 use lib.Ieee.{Float}
-use Rattle.leaves.specs.Answer.{Outcome, refused, answered}
+use Rattle.doubles.specs.Answer.{Outcome, refused, answered}
 use Rattle.systems.specs.declared.utils.helpers.Ending.{Ending}
 use Rattle.systems.specs.declared.utils.helpers.Ending.the-variants as Ending
 use Rattle.systems.specs.declared.utils.helpers.Solution.{Solution}

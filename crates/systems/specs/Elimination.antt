@@ -7,7 +7,7 @@ use lib.ListN.{getD, set, replicate}
 use lib.Ieee.{Float, eq}
 use Rattle.doubles.specs.Num.{_⊖_, _⊗_, _⊘_, #0, at, pick, _or_}
 use Rattle.doubles.specs.Steps.{steps, all, upward, downward}
-use Rattle.leaves.specs.Answer.{refused, answered}
+use Rattle.doubles.specs.Answer.{refused, answered}
 use Rattle.systems.specs.Answer.{singular, solved, Eliminated}
 
 -- a system: rows of doubles; "one right-hand column", at place `size`

@@ -7,7 +7,7 @@ use lib.Dec.{eqb}
 use lib.Ieee.{Float, binary64, toBits, neg}
 use Rattle.doubles.specs.Num.{_⊘_, #0, #1, #2, count, _and_}
 use Rattle.doubles.specs.Steps.{tab, Stage, going, stopped, bad}
-use Rattle.leaves.specs.Answer.{Outcome, refused, answered}
+use Rattle.doubles.specs.Answer.{Outcome, refused, answered}
 use Rattle.systems.specs.Answer.{Ended, singular, solved, Eliminated}
 use Rattle.leaves.specs.Soft.{soft}
 use Rattle.leaves.specs.Penalty.{prox}

@@ -10,9 +10,8 @@ use prog.Memory.{Memory}
 use prog.Routine.{Routine}
 use prog.Wp.{Heap}
 use denote.Ref.{now}
-use Rattle.doubles.proofs.Tight.{coincide}
-use Rattle.leaves.specs.declared.Number.{Number}
-use Rattle.leaves.proofs.Tight.{one-number}
+use Rattle.doubles.proofs.Tight.{coincide, one-number}
+use Rattle.doubles.specs.declared.Number.{Number}
 use Rattle.designs.specs.declared.Verdict.{Verdict}
 use Rattle.designs.proofs.Tight.{one-verdict}
 use Rattle.runs.specs.Call.{Lent}

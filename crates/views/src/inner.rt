@@ -1,7 +1,7 @@
 // The work of the thin calls, on the slices of a view: each makes the shape of a CSC design and calls the public call of the crate below. All three
 // slices have the view's lifetime.
 ghost use mathlib.Core.Path.{_≡_};
-ghost use Rattle.leaves.specs.Answer.{numberOf};
+ghost use Rattle.doubles.specs.Answer.{numberOf};
 ghost use Rattle.designs.specs.Design as def;
 ghost use Rattle.designs.specs.Checks.{verdictOf};
 ghost use Rattle.datafits.specs.Calls as calls;
@@ -13,7 +13,7 @@ use designs::Layout;
 use designs::Shape;
 use designs::Verdict;
 use designs::checks::admit;
-use leaves::Number;
+use doubles::Number;
 use runs::Fit;
 use runs::Settings;
 

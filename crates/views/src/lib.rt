@@ -1,7 +1,7 @@
 // A sparse design as one view: its three slices travel together. Each call over a view is thin: it takes the view apart, and `inner` does the work
 // on the slices, as the public call of the crate below for a CSC design.
 ghost use mathlib.Core.Path.{_≡_};
-ghost use Rattle.leaves.specs.Answer.{numberOf};
+ghost use Rattle.doubles.specs.Answer.{numberOf};
 ghost use Rattle.designs.specs.Design as def;
 ghost use Rattle.designs.specs.Checks.{verdictOf};
 ghost use Rattle.datafits.specs.Calls as calls;
@@ -10,7 +10,7 @@ ghost use Rattle.solvers.specs.Buffers.{lent};
 ghost use Rattle.views.specs.Check.{designFault};
 use designs::Feature;
 use designs::Verdict;
-use leaves::Number;
+use doubles::Number;
 use runs::Fit;
 use runs::Settings;
 

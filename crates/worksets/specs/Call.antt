@@ -7,7 +7,7 @@ use lib.ListN.{length}
 use lib.Ieee.{Float, lt}
 use Rattle.doubles.specs.Num.{#0, at, finite, _and_, _or_}
 use Rattle.doubles.specs.Buffer.{put}
-use Rattle.leaves.specs.Answer.{Outcome, refused, answered}
+use Rattle.doubles.specs.Answer.{Outcome, refused, answered}
 use Rattle.designs.specs.Search.{firstOf, mark}
 use Rattle.designs.specs.Checks.{Fault, none, unless, told, after, left}
 use Rattle.runs.specs.WorkingSet.{isZero, size, workingSet, padded}

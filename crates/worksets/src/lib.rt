@@ -1,9 +1,9 @@
 // The working set: the features that the epochs of one iteration visit.
 ghost use mathlib.Core.Path.{_≡_};
-ghost use Rattle.leaves.specs.Answer.{refused as refused'};
+ghost use Rattle.doubles.specs.Answer.{refused as refused'};
 ghost use Rattle.worksets.specs.Call as calls;
 use designs::Found;
-use leaves::Refusal;
+use doubles::Refusal;
 
 pub mod inner;
 

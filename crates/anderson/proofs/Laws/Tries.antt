@@ -9,13 +9,13 @@ use borrow.Author.Tests.{eq-eqb, ne-eqb, le-leb, lt-leb}
 use Rattle.doubles.specs.Num.{#0, _and_}
 use Rattle.doubles.specs.Steps.{steps, tab}
 use Rattle.doubles.proofs.Laws.Steps.{steps-all}
-use Rattle.leaves.specs.Answer.{Outcome, answered}
+use Rattle.doubles.specs.Answer.{Outcome, answered}
 use Rattle.systems.specs.Answer.{solutionOf, endingOf, Ended, solved, singular}
 use Rattle.systems.specs.Elimination.{solveCall}
 use Rattle.systems.specs.declared.utils.helpers.Solution.{Solution}
 use Rattle.systems.specs.declared.utils.helpers.Ending.{Ending}
 use Rattle.systems.specs.declared.utils.helpers.Ending.the-variants as Ending
-use Rattle.leaves.specs.declared.Refusal.{Refusal}
+use Rattle.doubles.specs.declared.Refusal.{Refusal}
 use Rattle.leaves.specs.declared.penalties.separable.Penalty.{Penalty}
 use Rattle.designs.specs.declared.Shape.{Shape}
 use Rattle.designs.specs.Design.{extrapolated}

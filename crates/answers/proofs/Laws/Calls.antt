@@ -11,7 +11,7 @@ use lib.Ieee.{Float}
 use Rattle.doubles.specs.Num.{_and_}
 use Rattle.doubles.specs.Buffer.{put}
 use Rattle.doubles.proofs.Laws.Parts.{part-at}
-use Rattle.leaves.specs.Answer.{Outcome, refused, answered}
+use Rattle.doubles.specs.Answer.{Outcome, refused, answered}
 use Rattle.runs.specs.Call.{Lent}
 use Rattle.runs.specs.declared.Report.{Report}
 use Rattle.files.specs.Call.{Problem, parsed, Places, roomy, given, readProblem, sizesOf, sized, readCall, filled, readLeft}

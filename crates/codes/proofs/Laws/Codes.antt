@@ -7,9 +7,9 @@ use native.Mathlib.Omega.{arith}
 use borrow.Author.Tests.{ne-eqb}
 use lib.Ieee.{Float}
 use Rattle.doubles.specs.Num.{_and_, finite}
-use Rattle.leaves.specs.Answer.{Outcome}
+use Rattle.doubles.specs.Answer.{Outcome}
 use Rattle.leaves.specs.Penalty.{alphaLegal, legal}
-use Rattle.leaves.specs.declared.Refusal.{Refusal}
+use Rattle.doubles.specs.declared.Refusal.{Refusal}
 use Rattle.designs.specs.declared.Shape.{Shape}
 use Rattle.runs.specs.Call.{Lent, fitCall, fitLeft, fitOf, settingsLegal}
 use Rattle.runs.specs.declared.Fit.{Fit}

@@ -13,8 +13,8 @@ use lib.ListN.{length, getD}
 use lib.Ieee.{Float}
 use Rattle.doubles.specs.Num.{_and_, _or_}
 use Rattle.doubles.proofs.Laws.Choice.{and-both}
-use Rattle.leaves.specs.Answer.{refused, answered}
-use Rattle.leaves.specs.declared.Refusal.{Refusal}
+use Rattle.doubles.specs.Answer.{refused, answered}
+use Rattle.doubles.specs.declared.Refusal.{Refusal}
 use Rattle.designs.specs.Search.{mark}
 use Rattle.designs.proofs.Laws.Search.{unmarked, first-none, none-first}
 use Rattle.designs.proofs.Laws.Layouts.{row-below}

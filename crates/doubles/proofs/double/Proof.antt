@@ -1,12 +1,10 @@
 -- `double` is the double with the word's bits. A pattern is a NaN's where it lies above infinity's, the sign aside; of such a
 -- pattern the model's double is nan, and so is 0 / 0. Assumes nothing.
-use mathlib.Core.Path.{_≡_, refl, sym, ap, _∙_}
-use mathlib.Core.Bool.{Bool, true, false, not, false≢true}
-use Prim.Native.Nat.{ℕ}
+use mathlib.Core.Path.{_≡_, refl, sym, _∙_}
+use mathlib.Core.Bool.{true, false≢true}
 use borrow.Author.Needs.{needs}
 use borrow.Author.Tests.{lt-ltb, le-ltb}
-use lib.Dec.{T, ltb}
-use lib.Ieee.{Float, nan, inf, fin, binary64, ofBits, div, isNan, nanBits}
+use lib.Ieee.{Float, nan, inf, fin, binary64, ofBits, div, isNan}
 use lib.Ieee.Bits.{nanBits-is, nanBits-above}
 use Rattle.doubles.proofs.double.Statement.{statement}
 use Rattle.doubles.proofs.double.Tie as tie

@@ -10,7 +10,7 @@ use borrow.Author.Tests.{leb-true, ltb-true, le-leb, lt-leb}
 use Rattle.doubles.specs.Num.{_and_}
 use Rattle.doubles.specs.Buffer.{put}
 use Rattle.doubles.proofs.Laws.Choice.{and-both}
-use Rattle.leaves.specs.Answer.{Outcome, refused, answered}
+use Rattle.doubles.specs.Answer.{Outcome, refused, answered}
 use Rattle.designs.specs.declared.Shape.{Shape}
 use Rattle.runs.specs.declared.Settings.{Settings}
 use Rattle.files.specs.Problem.{readAll, shapeOf, settingsOf, goodHeader}

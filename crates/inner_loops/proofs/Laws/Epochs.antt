@@ -12,7 +12,7 @@ use lib.Ieee.{Float, le, lt}
 use Rattle.doubles.specs.Num.{_⊗_, pick, _and_}
 use Rattle.doubles.specs.Steps.{Stage, going, stopped, bad}
 use Rattle.doubles.proofs.Laws.Steps.{picked, not-picked}
-use Rattle.leaves.specs.Answer.{Outcome, refused, answered}
+use Rattle.doubles.specs.Answer.{Outcome, refused, answered}
 use Rattle.systems.specs.Answer.{Ended, singular, solved}
 use Rattle.systems.specs.Elimination.{solveCall}
 use Rattle.designs.specs.declared.Shape.{Shape}

@@ -1,11 +1,11 @@
 // The penalties and their public calls. A penalty carries its own numbers; each call goes by its cases.
 ghost use mathlib.Core.Path.{_≡_};
 ghost use Rattle.leaves.specs.Penalty as pen;
-ghost use Rattle.leaves.specs.Answer as answer;
-use crate::Number;
-use crate::Refusal;
+ghost use Rattle.doubles.specs.Answer as answer;
 use crate::penalties::inner;
 use crate::utils::prox_funcs::soft_thresholding;
+use doubles::Number;
+use doubles::Refusal;
 use doubles::abs;
 use doubles::signum;
 

@@ -11,7 +11,7 @@ use lib.Ieee.{Float}
 use Rattle.doubles.specs.Num.{pick, _and_}
 use Rattle.doubles.specs.Buffer.{put}
 use Rattle.doubles.proofs.Laws.Choice.{and-both}
-use Rattle.leaves.specs.Answer.{Outcome, refused, answered}
+use Rattle.doubles.specs.Answer.{Outcome, refused, answered}
 use Rattle.designs.specs.Checks.{none, unless, after, left}
 use Rattle.runs.specs.declared.Report.{Report}
 use Rattle.listings.specs.Listing.{listed}

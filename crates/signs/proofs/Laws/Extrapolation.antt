@@ -14,7 +14,7 @@ use Rattle.doubles.proofs.Laws.Turned.{turned-sub}
 use Rattle.doubles.proofs.Laws.Compare.{finite-turned}
 use Rattle.doubles.proofs.Laws.Signs.{turned-times, sum-turned, signs-at, signs-set, signs-length}
 use Rattle.doubles.proofs.Laws.Steps.{tab-same, length-tab}
-use Rattle.leaves.specs.Answer.{Outcome, refused, answered}
+use Rattle.doubles.specs.Answer.{Outcome, refused, answered}
 use Rattle.systems.specs.Answer.{Ended, singular, solved}
 use Rattle.systems.specs.Elimination.{solveCall}
 use Rattle.designs.specs.Design.{movedAll, extrapolated, squaredError, datafit}

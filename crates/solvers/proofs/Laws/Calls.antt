@@ -13,8 +13,8 @@ use borrow.Author.Tests.{leb-true, eqb-true}
 use Rattle.doubles.specs.Num.{pick, _and_}
 use Rattle.doubles.specs.Steps.{Stage}
 use Rattle.doubles.proofs.Laws.Choice.{and-both}
-use Rattle.leaves.specs.Answer.{Outcome, refused, answered}
-use Rattle.leaves.specs.declared.Refusal.{Refusal}
+use Rattle.doubles.specs.Answer.{Outcome, refused, answered}
+use Rattle.doubles.specs.declared.Refusal.{Refusal}
 use Rattle.designs.specs.Checks.{none, fault, sizes, admitted, verdictOf}
 use Rattle.designs.specs.declared.Shape.{Shape}
 use Rattle.designs.specs.declared.Verdict.{Verdict}

@@ -4,7 +4,7 @@ ghost use mathlib.Core.Path.{_≡_};
 ghost use Prim.Native.Nat.{_+_, _<_, _≤_};
 ghost use Rattle.systems.specs.Elimination as gauss;
 ghost use Rattle.systems.specs.Answer as answer;
-use leaves::Refusal;
+use doubles::Refusal;
 
 pub enum Ending {
     Refused(Refusal),

@@ -1,7 +1,7 @@
 -- `vectors::same` tells two doubles apart. Numbers that are equal and not zero are both what one fraction is rounded to; a zero is written
 -- in one way but for its sign, which is the sign of 1 / x. Assumes nothing.
 use mathlib.Core.Path.{_≡_, refl, sym, ap, _∙_, subst}
-use mathlib.Core.Bool.{Bool, true, false, not, Bool·beq, _||_, true≢false, false≢true}
+use mathlib.Core.Bool.{Bool, true, false, Bool·beq, _||_, true≢false, false≢true}
 use Prim.Native.Nat.{ℕ, zero, suc, _*_, _<_}
 use native.Mathlib.Nat.{mul-pos, zero-lt-suc}
 use native.Mathlib.Omega.{arith}

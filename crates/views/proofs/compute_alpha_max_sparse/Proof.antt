@@ -18,8 +18,8 @@ use denote.Plain.{uint-vals, uint-tells, uint-lawful}
 use denote.Slice.{slice-vals, shr-slice-tells, shr-slice-lawful, mut-slice-tells, mut-slice-lawful}
 use denote.Triple.Statement.{Triple}
 use denote.Enum.Laws as EL
-use Rattle.leaves.proofs.Number as Number
-use Rattle.leaves.proofs.Number.Laws as Number′
+use Rattle.doubles.proofs.Number as Number
+use Rattle.doubles.proofs.Number.Laws as Number′
 use Rattle.views.proofs.Laws.Steps.{copied, sets, freed}
 use Rattle.views.proofs.Laws.Thin.{others, Call, Promise, Callee, passed, entry, Walks, calls-apart, thin-meets}
 use Rattle.views.proofs.inner.compute_alpha_max.Symbol as callee

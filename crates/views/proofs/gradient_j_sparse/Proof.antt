@@ -21,8 +21,8 @@ use denote.Enum.Laws as EL
 use denote.Struct.Laws as LL
 use Rattle.designs.proofs.Feature as Feature
 use Rattle.designs.proofs.Feature.Laws as Feature′
-use Rattle.leaves.proofs.Number as Number
-use Rattle.leaves.proofs.Number.Laws as Number′
+use Rattle.doubles.proofs.Number as Number
+use Rattle.doubles.proofs.Number.Laws as Number′
 use Rattle.views.proofs.Laws.Steps.{copied, sets, freed}
 use Rattle.views.proofs.Laws.Thin.{others, Call, Promise, Callee, passed, entry, Walks, calls-apart, thin-meets}
 use Rattle.views.proofs.inner.gradient_j.Symbol as callee

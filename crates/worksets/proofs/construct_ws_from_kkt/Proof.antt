@@ -10,7 +10,7 @@ use borrow.Author.Tests.{leb-true, eqb-true, le-leb, lt-leb}
 use Rattle.doubles.specs.Num.{_and_}
 use Rattle.doubles.proofs.Laws.Choice.{and-both}
 use Rattle.doubles.proofs.Laws.Buffer.{put-front}
-use Rattle.leaves.specs.Answer.{answered}
+use Rattle.doubles.specs.Answer.{answered}
 use Rattle.worksets.specs.Call.{wsFault, wsCall, wsLeft}
 use borrow.Author.Needs.{needs}
 use Rattle.worksets.proofs.construct_ws_from_kkt.Statement.{statement}

@@ -1,8 +1,8 @@
 -- What the answers stand for: "the promises use a definition that gives this paper's number and values for each of the enum's cases".
 use Prim.Native.Nat.{ℕ}
 use lib.Ieee.{Float}
-use Rattle.leaves.specs.declared.Number.{Number}
-use Rattle.leaves.specs.declared.Number.the-variants as Number
+use Rattle.doubles.specs.declared.Number.{Number}
+use Rattle.doubles.specs.declared.Number.the-variants as Number
 
 -- a refusal with its number and place, or an answer
 pub data Outcome (A : Type 0) : Type 0 where
