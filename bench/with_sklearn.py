@@ -5,9 +5,12 @@ import sys
 import time
 import warnings
 
-import numpy
-import scipy.sparse
-from sklearn.linear_model import Lasso
+try:
+    import numpy
+    import scipy.sparse
+    from sklearn.linear_model import Lasso
+except ImportError as missing:
+    sys.exit(f"with_sklearn.py: {missing}")
 
 warnings.filterwarnings("ignore")
 folder, n, p, alpha, wanted = sys.argv[1], int(sys.argv[2]), int(sys.argv[3]), float(sys.argv[4]), float(sys.argv[5])
