@@ -153,17 +153,8 @@ fn run_epoch(
 {
     let twice = shape.p + shape.p;
     let penalty = settings.penalty;
-    if cd_epoch(
-        shape,
-        starts,
-        rows,
-        values,
-        penalty,
-        &scratch[..twice],
-        ws,
-        w,
-        fit,
-    ) {} else {
+    let prepared = &scratch[..twice];
+    if cd_epoch(shape, starts, rows, values, penalty, prepared, ws, w, fit) {} else {
         return InnerStep::Bad;
     }
     let after = accelerate(

@@ -12,11 +12,11 @@ use Rattle.inner_loops.proofs.run_epoch.Tie as tie
 add-twice : tie.Need-add-twice
 add-twice c = search needs
 
-slice-reshare-prefix-cd-epoch : tie.Need-slice-reshare-prefix-cd-epoch
-slice-reshare-prefix-cd-epoch c = room-twice (c .before .before .before .before .before .before .before .before .before .pre .0)
+slice-reshare-prefix-prepared : tie.Need-slice-reshare-prefix-prepared
+slice-reshare-prefix-prepared c = room-twice (c .before .before .before .before .before .before .before .before .before .pre .0)
 
-slice-aggregate-cd-epoch : tie.Need-slice-aggregate-cd-epoch
-slice-aggregate-cd-epoch c = sym (length-take-le _ _ (room-twice (c .before .before .before .before .before .before .before .before .before .before .pre .0)))
+slice-aggregate-prepared : tie.Need-slice-aggregate-prepared
+slice-aggregate-prepared c = sym (length-take-le _ _ (room-twice (c .before .before .before .before .before .before .before .before .before .before .pre .0)))
 
 cd-epoch-requires : tie.Need-cd-epoch-requires
 cd-epoch-requires c κs = (c .before .before .before .before .before .before .before .before .before .before .before .before .pre .1 .below, c .before .before .before .before .before .before .before .before .before .before .before .before .pre .0 .samples, c .before .before .before .before .before .before .before .before .before .before .before .before .pre .0 .weights, length-take-le _ _ (room-twice (c .before .before .before .before .before .before .before .before .before .before .before .before .pre .0)), c .before .before .before .before .before .before .before .before .before .before .before .before .pre .0 .whole, c .before .before .before .before .before .before .before .before .before .before .before .before .pre .0 .fits)
@@ -89,8 +89,8 @@ run-epoch-spec =
     tie.close
     (tie.spec
     add-twice
-    slice-reshare-prefix-cd-epoch
-    slice-aggregate-cd-epoch
+    slice-reshare-prefix-prepared
+    slice-aggregate-prepared
     cd-epoch-requires
     same-length
     same-length-2
