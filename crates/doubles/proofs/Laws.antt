@@ -4,6 +4,7 @@ pub mod Turned
 pub mod Choice
 pub mod Compare
 pub mod Order
+pub mod Less
 pub mod Below
 pub mod Zero
 pub mod Exact
@@ -11,3 +12,5 @@ pub mod Signs
 pub mod Steps
 pub mod Buffer
 pub mod Parts
+pub mod Counts
+pub mod Sorted

@@ -4,3 +4,4 @@ pub mod Steps
 pub mod Buffer
 pub mod Sign
 pub mod Answer
+pub mod Inner
