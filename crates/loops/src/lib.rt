@@ -1,6 +1,7 @@
 // The loops of a run, over a design, settings and buffers already tested: the preparation and the outer iterations. The scratch is laid out
 // as the inner loops have it.
 ghost use mathlib.Core.Path.{_≡_};
+ghost use mathlib.Core.Bool.{true};
 ghost use mathlib.Core.List.{List};
 ghost use Prim.Native.Nat.{ℕ, _+_, _≤_};
 ghost use lib.Dec.{eqb};
@@ -77,7 +78,10 @@ fn iterate(
     scratch: &mut [f64],
     totals: Totals,
 ) -> OuterStep
-    requires { ⌜ inner.Ready shape (now starts) (now rows) (now values) (now y) settings (now w) (now fit) (now scratch) × (length (now indices) ≡ shape .p) × here.Totalled 999 totals × (here.violationsIn shape (now scratch) ≡ ep.violations (inner.taskOf shape (now starts) (now rows) (now values) settings (now scratch)) (now w) (now fit)) ⌝ }
+    requires { ⌜ (let task = inner.taskOf shape (now starts) (now rows) (now values) settings (now scratch) in
+        inner.Ready shape (now starts) (now rows) (now values) (now y) settings (now w) (now fit) (now scratch)
+        × (length (now indices) ≡ shape .p) × here.Totalled 999 totals
+        × (here.violationsIn shape (now scratch) ≡ ep.violations task (now w) (now fit)) × (ep.allKnown task (now w) (now fit) ≡ true)) ⌝ }
     ensures { λ r. ⌜ ((sets : List (List ℕ)) → here.shows shape settings r (now (w .exit)) (now (fit .exit)) (now (scratch .exit)) (def.iteration (inner.taskOf shape (now (starts .entry)) (now (rows .entry)) (now (values .entry)) settings (now (scratch .entry))) (now (y .entry)) settings v (here.stateOf totals (now (w .entry)) (now (fit .entry)) (inner.keptHere shape settings (now (scratch .entry))) sets)))
         × (take (shape .p + shape .p) (now (scratch .exit)) ≡ take (shape .p + shape .p) (now (scratch .entry)))
         × here.Grown totals (here.totalsOf r totals) ⌝ }

@@ -1,5 +1,4 @@
 -- Laws on the definitions of specs/, which this crate and those above cite.
-pub mod Below
-pub mod Insert
+pub mod Numbers
 pub mod Sets
 pub mod Places

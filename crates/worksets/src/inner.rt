@@ -1,18 +1,19 @@
 // The parts of the working set, for the stand-alone call and for the solver, which has no need of the call's tests.
 ghost use mathlib.Core.Path.{_≡_};
-ghost use Prim.Native.Nat.{ℕ, _+_, _*_, _<_, _≤_};
+ghost use Prim.Native.Nat.{_+_, _*_, _<_, _≤_};
 ghost use mathlib.Core.Bool.{not};
-ghost use mathlib.Core.List.{[], _∷_, _++_};
 ghost use lib.Dec.{leb, eqb};
 ghost use lib.Ieee.{lt, eq};
-ghost use lib.ListN.{length, getD, take, drop, set};
+ghost use lib.ListN.{length, set};
 ghost use Rattle.doubles.specs.Num as num;
 ghost use Rattle.doubles.specs.Steps.{tab};
 ghost use Rattle.designs.specs.Search.{firstOf, mark};
 ghost use Rattle.runs.specs.WorkingSet as def;
+ghost use Rattle.selection.specs.Inner.Heap.{Numbers};
 ghost use Rattle.worksets.specs.Call as calls;
 use designs::Found;
 use doubles::is_finite;
+use selection::rank;
 
 // ---- what the stand-alone call tests
 
@@ -114,99 +115,9 @@ fn size(start: usize, nonzero: usize, p: usize) -> usize
     if start < grown { grown } else { start }
 }
 
-// A feature on its way to its place among ranked ones. Once placed, it is the one that it pushed out that goes on, to the next place.
-pub struct Carry {
-    pub feature: u32,
-    pub placed: bool,
-}
-
-// Whether what is carried takes the place of the feature there.
-fn takes_place(kkt: &[f64], here: u32, carry: Carry) -> bool
-    requires { ⌜ (here < length (now kkt)) × (carry .feature < length (now kkt)) ⌝ }
-    ensures { λ r. ⌜ r ≡ num._or_ (carry .placed) (lt (num.at (now (kkt .entry)) here) (num.at (now (kkt .entry)) (carry .feature))) ⌝ }
-{
-    if carry.placed {
-        return true;
-    }
-    kkt[here as usize] < kkt[carry.feature as usize]
-}
-
-// Past place k: what is carried goes on, or stays there and pushes out what was there.
-fn carry_past(kkt: &[f64], ranked: &mut [u32], k: usize, carry: Carry) -> Carry
-    requires { ⌜ (k < length (now ranked)) × (getD (now ranked) k 0 < length (now kkt)) × (carry .feature < length (now kkt)) ⌝ }
-    ensures { λ r. ⌜ (r .placed ≡ num._or_ (carry .placed) (lt (num.at (now (kkt .entry)) (getD (now (ranked .entry)) k 0)) (num.at (now (kkt .entry)) (carry .feature))))
-        × (r .feature ≡ num.pick (r .placed) (getD (now (ranked .entry)) k 0) (carry .feature))
-        × (now (ranked .exit) ≡ num.pick (r .placed) (set (now (ranked .entry)) k (carry .feature)) (now (ranked .entry))) ⌝ }
-{
-    let here = ranked[k];
-    if takes_place(kkt, here, carry) {
-        ranked[k] = carry.feature;
-        return Carry {
-            feature: here,
-            placed: true,
-        };
-    }
-    carry
-}
-
-// Carries feature j past the first c ranked ones; what is left over of them.
-fn carry_through(kkt: &[f64], ranked: &mut [u32], c: usize, j: usize) -> u32
-    requires { ⌜ (c ≤ length (now ranked)) × ((k : ℕ) → k < c → getD (now ranked) k 0 < length (now kkt)) × (j < length (now kkt)) × (length (now kkt) ≤ 8192) ⌝ }
-    ensures { λ r. ⌜ (take c (now (ranked .exit)) ++ (r ∷ []) ≡ def.insert (now (kkt .entry)) j (take c (now (ranked .entry)))) × (drop c (now (ranked .exit)) ≡ drop c (now (ranked .entry))) ⌝ }
-{
-    let mut carry = Carry {
-        feature: j as u32,
-        placed: false,
-    };
-    let mut k = 0;
-    while k < c {
-        carry = carry_past(kkt, ranked, k, carry);
-        k += 1;
-    }
-    carry.feature
-}
-
-// Feature j, whose weight is zero, into the first c ranked places, cut at the room; how many are ranked then.
-fn insert(kkt: &[f64], ranked: &mut [u32], c: usize, j: usize) -> usize
-    requires { ⌜ (c ≤ length (now ranked)) × ((k : ℕ) → k < c → getD (now ranked) k 0 < length (now kkt)) × (j < length (now kkt)) × (length (now kkt) ≤ 8192) ⌝ }
-    ensures { λ r. ⌜ (r ≤ length (now (ranked .entry))) × (take r (now (ranked .exit)) ≡ take (length (now (ranked .entry))) (def.insert (now (kkt .entry)) j (take c (now (ranked .entry))))) ⌝ }
-{
-    let left = carry_through(kkt, ranked, c, j);
-    if c < ranked.len() {
-        ranked[c] = left;
-        return c + 1;
-    }
-    c
-}
-
-// The same for a feature of any weight: one that is not zero is not ranked.
-fn insert_if_zero(kkt: &[f64], w: f64, ranked: &mut [u32], c: usize, j: usize) -> usize
-    requires { ⌜ (c ≤ length (now ranked)) × ((k : ℕ) → k < c → getD (now ranked) k 0 < length (now kkt)) × (j < length (now kkt)) × (length (now kkt) ≤ 8192) ⌝ }
-    ensures { λ r. ⌜ (r ≤ length (now (ranked .entry)))
-        × (take r (now (ranked .exit)) ≡ num.pick (eq w num.#0) (take (length (now (ranked .entry))) (def.insert (now (kkt .entry)) j (take c (now (ranked .entry))))) (take c (now (ranked .entry)))) ⌝ }
-{
-    if w == 0.0 {
-        return insert(kkt, ranked, c, j);
-    }
-    c
-}
-
-// The other features by falling violation, equal ones by lower index, as many as there is room for.
-fn rank(kkt: &[f64], w: &[f64], ranked: &mut [u32])
-    requires { ⌜ (length (now kkt) ≡ length (now w)) × (length (now w) ≤ 8192) × (length (now ranked) ≤ length (def.others (now kkt) (now w) (length (now w)))) ⌝ }
-    ensures { λ _. ⌜ now (ranked .exit) ≡ take (length (now (ranked .entry))) (def.others (now (kkt .entry)) (now (w .entry)) (length (now (w .entry)))) ⌝ }
-{
-    let mut c = 0;
-    let mut j = 0;
-    while j < w.len() {
-        c = insert_if_zero(kkt, w[j], ranked, c, j);
-        j += 1;
-    }
-}
-
 // The working set into p index places, then 0; its size.
 pub fn construct_ws(kkt: &[f64], w: &[f64], start: usize, indices: &mut [u32]) -> usize
-    requires { ⌜ (length (now kkt) ≡ length (now w)) × (length (now w) ≤ 8192) × (start ≤ length (now w)) × (length (now indices) ≡ length (now w)) ⌝ }
+    requires { ⌜ (length (now kkt) ≡ length (now w)) × (length (now w) ≤ 8192) × (start ≤ length (now w)) × (length (now indices) ≡ length (now w)) × Numbers (now kkt) (now w) ⌝ }
     ensures { λ r. ⌜ (r ≡ def.size start (now (w .entry))) × (now (indices .exit) ≡ def.padded (def.workingSet start (now (kkt .entry)) (now (w .entry))) (length (now (w .entry)))) ⌝ }
 {
     clear_indices(indices);

@@ -1,25 +1,27 @@
 -- One turn of the outer loop, from what its parts answer to its definition. Assumes nothing.
 use mathlib.Core.Path.{_≡_, refl, sym, ap, _∙_}
 use mathlib.Core.Bool.{Bool, true, false, false≢true}
-use Prim.Native.Nat.{ℕ, suc, _+_, _*_, _-_, _≤_}
+use Prim.Native.Nat.{ℕ, suc, _+_, _*_, _-_, _≤_, _<_}
 use native.Mathlib.Nat.{le-of-eq, le-trans, le-antisymm}
 use native.Mathlib.Omega.{arith}
 use mathlib.Core.List.{List, [], _∷_, _++_}
 use lib.Dec.{eqb, ltb}
 use lib.ListN.{length, take, drop}
 use lib.Seq.{take-at}
-use lib.Ieee.{Float, le}
+use lib.Ieee.{Float, nan, le}
 use borrow.Author.Tests.{ltb-true, ltb-false, eqb-false}
-use Rattle.doubles.specs.Num.{pick, _or_}
+use Rattle.doubles.specs.Num.{pick, finite, _or_}
 use Rattle.doubles.specs.Steps.{going, stopped, bad, andThen, tab}
 use Rattle.doubles.specs.Buffer.{put}
-use Rattle.doubles.proofs.Laws.Steps.{length-tab, picked, not-picked}
+use Rattle.doubles.proofs.Laws.Steps.{length-tab, getD-tab, all-each, picked, not-picked}
+use Rattle.doubles.proofs.Laws.Choice.{and-both}
 use Rattle.designs.specs.declared.Shape.{Shape}
 use Rattle.runs.specs.WorkingSet.{smaller, size, workingSet, padded}
-use Rattle.runs.specs.Epoch.{Task, allKnown, violations, worst}
+use Rattle.runs.specs.Epoch.{Task, gradientOf, violationOf, known, allKnown, violations, worst}
 use Rattle.runs.specs.Run.{epochs, chosenSet, iteration, turn}
 use Rattle.runs.specs.declared.Settings.{Settings}
 use Rattle.anderson.specs.Places.{keptIn, pointOf}
+use Rattle.selection.specs.Inner.Heap.{Numbers}
 use Rattle.worksets.proofs.Laws.Sets.{size-most, length-workingSet, workingSet-each}
 use Rattle.epochs.specs.Reading.{Measured, measured}
 use Rattle.inner_loops.specs.Reading.{taskOf, keptHere, innerOf, innerStage, countsOf, Features}
@@ -67,6 +69,14 @@ pub set-chosen : (T : Task) (S : Settings) (w fit v : List Float) (start : ℕ) 
     → ws ≡ workingSet start v w → ws ≡ chosenSet T S (pointOf w fit)
 unfolding chosenSet
 set-chosen T S w fit v start ws es ev e = e ∙ rw (es, ev)
+
+-- every violation is finite where all are known
+pub numbers-known : (T : Task) (w fit v : List Float) → v ≡ violations T w fit → allKnown T w fit ≡ true → length w ≡ T .p → Numbers v w
+unfolding violations allKnown known
+numbers-known T w fit v e k n = record { each = λ j h z. rw (e, getD-tab (violationOf T w fit) (T .p) j nan (rw n at h)) (one j (rw n at h)) }
+  where
+    one : (j : ℕ) → j < T .p → finite (violationOf T w fit j) ≡ true
+    one j h = and-both (finite (gradientOf T fit j)) (finite (violationOf T w fit j)) (all-each (known T w fit) (T .p) k j h) .1
 
 -- ---- one iteration
 module _ (T : Task) (y : List Float) (S : Settings) (v : Float) (c : Totals) (w fit kept : List Float) (ws : List ℕ)
@@ -117,6 +127,9 @@ module _ (T : Task) (w fit l : List Float) (v : Float) (m : List Float) (e : goi
   found : (allKnown T w fit ≡ true) × _≡_ {A = Measured} (record { largest = v; scratch = m }) (record { largest = worst T w fit; scratch = put l (T .p + T .p) (violations T w fit) })
   unfolding measured
   found = picked (allKnown T w fit) _ _ e
+
+  pub found-known : allKnown T w fit ≡ true
+  found-known = found .0
 
   pub found-scratch : m ≡ put l (T .p + T .p) (violations T w fit)
   found-scratch = ap (λ (x : Measured). x .scratch) (found .1)

@@ -4,7 +4,8 @@ use native.Mathlib.Omega.{arith}
 use native.Mathlib.Nat.{le-of-eq, le-trans}
 use lib.Seq.{length-take-le}
 use Rattle.inner_loops.proofs.Laws.Ready.{room-for}
-use Rattle.loops.proofs.Laws.Turns.{start-most, set-built, set-most, set-features, part-violations, set-chosen, shown-going, shown-stopped, shown-bad, grown-by, grown-none}
+use Rattle.loops.proofs.Laws.Turns.{start-most, set-built, set-most, set-features, part-violations, set-chosen, numbers-known}
+use Rattle.loops.proofs.Laws.Turns.{shown-going, shown-stopped, shown-bad, grown-by, grown-none}
 use Rattle.doubles.proofs.Laws.Parts.{part-long}
 use Rattle.inner_loops.specs.Reading.{countsOf}
 use Rattle.inner_loops.specs.declared.InnerStep.{InnerStep}
@@ -35,7 +36,18 @@ part-construct-ws-end : tie.Need-part-construct-ws-end
 part-construct-ws-end c = room-for (c .before .before .before .before .before .before .before .before .before .before .before .before .pre .0)
 
 construct-ws-requires : tie.Need-construct-ws-requires
-construct-ws-requires c κs = (part-long _ _ _ _ refl (room-for (c .before .before .before .before .before .before .before .before .before .before .before .before .before .before .before .pre .0)) ∙ sym (c .before .before .before .before .before .before .before .before .before .before .before .before .before .before .before .pre .0 .weights), le-trans (le-of-eq (c .before .before .before .before .before .before .before .before .before .before .before .before .before .before .before .pre .0 .weights)) (c .before .before .before .before .before .before .before .before .before .before .before .before .before .before .before .pre .0 .features), (start-most _ _ _ _ (c .before .before .before .before .start-size .ensures) (c .before .before .before .before .before .before .before .before .before .before .before .before .before .before .before .pre .0 .weights)), c .before .before .before .before .before .before .before .before .before .before .before .before .before .before .before .pre .1 ∙ sym (c .before .before .before .before .before .before .before .before .before .before .before .before .before .before .before .pre .0 .weights))
+construct-ws-requires c κs =
+    let at-size = c .before .before .before .before in
+    let entry = at-size .before .before .before .before .before .before .before .before .before .before .before in
+    let ready = entry .pre .0 in
+    let start = start-most _ _ _ _ (at-size .start-size .ensures) (ready .weights) in
+    let read = part-violations (entry .args .shape) (now (entry .args .scratch)) ∙ entry .pre .3 in (
+      part-long _ _ _ _ refl (room-for ready) ∙ sym (ready .weights),
+      le-trans (le-of-eq (ready .weights)) (ready .features),
+      start,
+      entry .pre .1 ∙ sym (ready .weights),
+      numbers-known _ _ _ _ read (entry .pre .4) (ready .weights),
+    )
 
 slice-reshare-prefix-ws : tie.Need-slice-reshare-prefix-ws
 slice-reshare-prefix-ws c = (le-trans (set-most _ _ _ (start-most _ _ _ _ (c .before .before .before .before .before .before .before .start-size .ensures) (c .before .before .before .before .before .before .before .before .before .before .before .before .before .before .before .before .before .before .pre .0 .weights)) _ _ (c .before .before .construct-ws .ensures .0) (c .before .before .construct-ws .ensures .1)) (le-of-eq (c .before .before .before .before .before .before .before .before .before .before .before .before .before .before .before .before .before .before .pre .0 .weights ∙ sym (c .before .before .construct-ws .kept .1 .1 .1 .0 ∙ c .before .before .before .before .before .before .before .before .before .before .before .before .before .before .before .before .before .before .pre .1))))

@@ -2,7 +2,8 @@
 use mathlib.Core.Path.{refl, sym, ap, _∙_}
 use Rattle.runs.proofs.Laws.Settings.{few-iterations}
 use Rattle.inner_loops.proofs.Laws.Ready.{room-for, ready-still}
-use Rattle.loops.proofs.Laws.Turns.{violations-read, kept-measured, turn-bad, found-scratch, turn-stops, turn-goes-on, not-last, totalled-more, totalled-most, grown-none, grown-same}
+use Rattle.loops.proofs.Laws.Turns.{violations-read, kept-measured, turn-bad, found-scratch, found-known, turn-stops, turn-goes-on, not-last}
+use Rattle.loops.proofs.Laws.Turns.{totalled-more, totalled-most, grown-none, grown-same}
 use Rattle.epochs.specs.Reading.{measuredOf}
 use Rattle.epochs.specs.declared.Worst.{Worst}
 use borrow.Author.Needs.{needs}
@@ -39,12 +40,21 @@ returns c = (
 )
 
 iterate-requires : tie.Need-iterate-requires
-iterate-requires c κs = (
-  ready-still (c .before .before .before .before .before .before .before .before .before .before .before .before .before .before .before .before .before .before .before .before .before .before .before .pre .0) _ _ (c .before .before .before .before .before .before .before .before .before .before .before .opt-cond-violation .last .1 .1 .1 .1 .1 .1 .1 .0) refl refl (c .before .before .before .before .before .before .before .before .before .before .before .opt-cond-violation .kept .1 .1 .1 .1 .1 .1 .1 .0),
-  c .before .before .before .before .before .before .before .before .before .before .before .before .before .before .before .before .before .before .before .before .before .before .before .pre .1,
-  totalled-most _ _ _ (not-last _ _ _ (sym (c .before .before .before .before .before .is-last .ensures) ∙ c .before .before .before .before .if1 .left) (c .before .before .before .before .before .before .before .before .before .before .before .before .before .before .before .before .before .before .before .before .before .before .before .pre .2) (few-iterations _ (c .before .before .before .before .before .before .before .before .before .before .before .before .before .before .before .before .before .before .before .before .before .before .before .pre .0 .legal))) (c .before .before .before .before .before .before .before .before .before .before .before .before .before .before .before .before .before .before .before .before .before .before .before .pre .3),
-  rw (c .before .before .before .before .before .before .before .before .before .before .before .opt-cond-violation .ensures .1) (violations-read _ (c .before .before .before .before .before .before .before .before .before .before .before .before .before .before .before .before .before .before .before .before .before .before .before .args .shape) refl _ _ _ (room-for (c .before .before .before .before .before .before .before .before .before .before .before .before .before .before .before .before .before .before .before .before .before .before .before .pre .0)) _ (found-scratch _ _ _ _ _ _ (sym (ap (λ (r : Worst). measuredOf r (c .before .before .before .before .before .before .before .before .before .before .before .opt-cond-violation .last .1 .1 .1 .1 .1 .1 .1 .0)) (c .before .before .before .before .before .before .before .v .given .1)) ∙ c .before .before .before .before .before .before .before .before .before .before .before .opt-cond-violation .ensures .0))),
-)
+iterate-requires c κs =
+    let at-last = c .before .before .before .before in
+    let at-check = at-last .before .before .before .before .before .before .before in
+    let entry = at-check .before .before .before .before .before .before .before .before .before .before .before .before in
+    let ready = entry .pre .0 in
+    let checked = at-check .opt-cond-violation in
+    let scratch = checked .last .1 .1 .1 .1 .1 .1 .1 .0 in
+    let last = sym (at-last .before .is-last .ensures) ∙ at-last .if1 .left in
+    let found = sym (ap (λ (r : Worst). measuredOf r scratch) (at-last .before .before .before .v .given .1)) ∙ checked .ensures .0 in (
+      ready-still ready _ _ scratch refl refl (checked .kept .1 .1 .1 .1 .1 .1 .1 .0),
+      entry .pre .1,
+      totalled-most _ _ _ (not-last _ _ _ last (entry .pre .2) (few-iterations _ (ready .legal))) (entry .pre .3),
+      rw (checked .ensures .1) (violations-read _ (entry .args .shape) refl _ _ _ (room-for ready) _ (found-scratch _ _ _ _ _ _ found)),
+      rw (checked .ensures .1) (found-known _ _ _ _ _ _ found),
+    )
 
 same-length-4 : tie.Need-same-length-4
 same-length-4 c = search needs

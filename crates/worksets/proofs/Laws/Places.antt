@@ -7,16 +7,15 @@ use Prim.Native.Nat.{ℕ, suc, _+_, _*_, _-_, _≤_, _<_}
 use native.Mathlib.Nat.{le-antisymm, sub-zero}
 use native.Mathlib.Omega.{arith}
 use lib.Ieee.{Float}
-use lib.ListN.{length, getD, take, drop, set, length-append, length-drop}
-use lib.Seq.{length-take-le, take-all, take-nil, take-at, drop-at, getD-take, set-at}
+use lib.ListN.{length, take, drop, set, length-append, length-drop}
+use lib.Seq.{length-take-le, take-at, drop-at, set-at}
 use borrow.Author.Tests.{lt-ltb, le-ltb}
 use Rattle.doubles.specs.Num.{pick}
 use Rattle.doubles.specs.Steps.{steps, tab}
 use Rattle.doubles.proofs.Laws.Parts.{same-drop, same-first}
-use Rattle.runs.specs.WorkingSet.{isZero, smaller, greater, support, size, insert, others, workingSet, padded}
-use Rattle.worksets.proofs.Laws.Below.{below-each, below-more, below-cut}
-use Rattle.worksets.proofs.Laws.Insert.{cut-insert}
-use Rattle.worksets.proofs.Laws.Sets.{support-more, others-more, share-out, support-few, others-below, size-most, size-least, workingSet-parts, length-workingSet}
+use Rattle.runs.specs.WorkingSet.{isZero, smaller, greater, support, size, others, workingSet, padded}
+use Rattle.selection.proofs.Laws.Others.{share-out}
+use Rattle.worksets.proofs.Laws.Sets.{support-more, support-few, size-most, size-least, workingSet-parts, length-workingSet}
 
 -- ---- the size: which of two is the smaller, by the branch that was taken
 pub smaller-of : {P Q : Type 0} (a n g : ℕ) → ((t : P) × (g ≡ n)) ⊎ ((t : Q) × (g ≡ a)) → (P → n < a) → (Q → a ≤ n) → g ≡ smaller a n
@@ -99,36 +98,3 @@ support-turn w n j c l l' h e is q = q ∙ rw (support-more w j) (go (isZero w j
         let a : n - length (support w j) ≡ suc (n - (c + 1)) = omega arith in
         let b : n - length (support w j ++ (j ∷ [])) ≡ n - (c + 1) = rw (length-append (support w j) (j ∷ []), e) in
         rw (is, a, b, same-first {A = ℕ} 0 (n - (c + 1)), append-assoc) (set-at (support w j) 0 (tab {A = ℕ} (λ k. 0) (n - (c + 1))) j c (sym e))
-
--- ---- the loop that ranks the others, cut at the room m
-module _ (v w : List Float) (m : ℕ) where
-  pub rank-none : (l : List ℕ) → take 0 l ≡ take m (others v w 0)
-  unfolding others steps
-  rank-none l = sym (take-nil m)
-
-  module _ (j c : ℕ) (l : List ℕ) (is : take c l ≡ take m (others v w j)) where
-    pub rank-turn : (c' : ℕ) (l' : List ℕ) → length l ≡ m → take c' l' ≡ pick (isZero w j) (take (length l) (insert v j (take c l))) (take c l) → take c' l' ≡ take m (others v w (j + 1))
-    rank-turn c' l' e q = q ∙ rw (e, others-more v w j, is) (go (isZero w j))
-      where
-        go : (t : Bool) → pick t (take m (insert v j (take m (others v w j)))) (take m (others v w j)) ≡ take m (pick t (insert v j (others v w j)) (others v w j))
-        go true = sym (cut-insert v j m (others v w j))
-        go false = refl
-
-    -- what is ranked can be looked up
-    pub rank-below : (n : ℕ) → j ≤ n → c ≤ length l → (k : ℕ) → k < c → getD l k 0 < n
-    rank-below n h a k b =
-        let e : length (take c l) ≡ c = length-take-le c l a in
-        rw (getD-take c l k 0 b) at
-        (below-each n (take c l) (rw is (below-cut n m (others v w j) (below-more j n (others v w j) h (others-below v w j)))) k (omega arith))
-
-    pub rank-all : (n : ℕ) → j ≤ n → n ≤ j → length l ≡ m → c ≤ m → m ≤ length (others v w n) → l ≡ take m (others v w n)
-    rank-all n a b e hc hm =
-        let q : j ≡ n = le-antisymm a b in
-        let is' : take c l ≡ take m (others v w n) = rw q at is in
-        let x : length (take c l) ≡ c = length-take-le c l (omega arith) in
-        let y : length (take m (others v w n)) ≡ m = length-take-le m (others v w n) hm in
-        let z : length l ≤ c = le-of (sym x ∙ ap length is' ∙ y) e in
-        sym (take-all c l z) ∙ is'
-      where
-        le-of : c ≡ m → length l ≡ m → length l ≤ c
-        le-of p q = omega arith

@@ -12,6 +12,7 @@ use Rattle.doubles.proofs.Laws.Choice.{and-both}
 use Rattle.doubles.proofs.Laws.Buffer.{put-front}
 use Rattle.doubles.specs.Answer.{answered}
 use Rattle.worksets.specs.Call.{wsFault, wsCall, wsLeft}
+use Rattle.worksets.proofs.Laws.Numbers.{numbers-of}
 use borrow.Author.Needs.{needs}
 use Rattle.worksets.proofs.construct_ws_from_kkt.Statement.{statement}
 use Rattle.worksets.proofs.construct_ws_from_kkt.Tie as tie
@@ -34,7 +35,10 @@ refused-requires c κs = search needs
 
 returns : tie.Need-returns
 unfolding wsCall wsLeft wsFault
-returns c = (c .refused .ensures ∙ rw (← c .before .before .lengths-agree .ensures, c .before .if1 .left), rw (← c .before .before .lengths-agree .ensures, c .before .if1 .left))
+returns c = (
+  c .refused .ensures ∙ rw (← c .before .before .lengths-agree .ensures, c .before .if1 .left),
+  rw (← c .before .before .lengths-agree .ensures, c .before .if1 .left),
+)
 
 start-in-range-requires : tie.Need-start-in-range-requires
 start-in-range-requires c κs = search needs
@@ -44,17 +48,43 @@ refused-requires-2 c κs = search needs
 
 returns-2 : tie.Need-returns-2
 unfolding wsCall wsLeft wsFault
-returns-2 c = (c .refused2 .ensures ∙ rw (← c .before .before .before .before .lengths-agree .ensures, c .before .before .before .if1 .taken, ← c .before .before .start-in-range .ensures, c .before .if2 .left), rw (← c .before .before .before .before .lengths-agree .ensures, c .before .before .before .if1 .taken, ← c .before .before .start-in-range .ensures, c .before .if2 .left))
+returns-2 c =
+    let at-if1 = c .before .before .before in
+    let at-lengths-agree = at-if1 .before in (
+      c .refused2 .ensures ∙ rw
+          (← at-lengths-agree .lengths-agree .ensures, at-if1 .if1 .taken, ← c .before .before .start-in-range .ensures, c .before .if2 .left),
+      rw
+          (← at-lengths-agree .lengths-agree .ensures, at-if1 .if1 .taken, ← c .before .before .start-in-range .ensures, c .before .if2 .left),
+    )
 
 refused-requires-3 : tie.Need-refused-requires-3
 refused-requires-3 c κs = search needs
 
 returns-3 : tie.Need-returns-3
 unfolding wsCall wsLeft wsFault
-returns-3 c = (c .refused3 .ensures ∙ rw (← c .before .before .before .before .before .lengths-agree .ensures, c .before .before .before .before .if1 .taken, ← c .before .before .before .start-in-range .ensures, c .before .before .if2 .taken, lt-leb _ _ (c .before .if3 .left)), rw (← c .before .before .before .before .before .lengths-agree .ensures, c .before .before .before .before .if1 .taken, ← c .before .before .before .start-in-range .ensures, c .before .before .if2 .taken, lt-leb _ _ (c .before .if3 .left)))
+returns-3 c =
+    let at-start-in-range = c .before .before .before in
+    let at-if1 = at-start-in-range .before in
+    let at-lengths-agree = at-if1 .before in (
+      c .refused3 .ensures ∙ rw (
+        ← at-lengths-agree .lengths-agree .ensures,
+        at-if1 .if1 .taken,
+        ← at-start-in-range .start-in-range .ensures,
+        c .before .before .if2 .taken,
+        lt-leb _ _ (c .before .if3 .left),
+      ),
+      rw (
+        ← at-lengths-agree .lengths-agree .ensures,
+        at-if1 .if1 .taken,
+        ← at-start-in-range .start-in-range .ensures,
+        c .before .before .if2 .taken,
+        lt-leb _ _ (c .before .if3 .left),
+      ),
+    )
 
 first-bad-violation-requires : tie.Need-first-bad-violation-requires
-first-bad-violation-requires c κs = agreed _ _ _ (c .before .before .before .before .lengths-agree .ensures) (c .before .before .before .if1 .taken) .1
+first-bad-violation-requires c κs =
+    agreed _ _ _ (c .before .before .before .before .lengths-agree .ensures) (c .before .before .before .if1 .taken) .1
 
 enum-known-j : tie.Need-enum-known-j
 enum-known-j c = search needs
@@ -64,7 +94,32 @@ refused-requires-4 c κs = search needs
 
 returns-4 : tie.Need-returns-4
 unfolding wsCall wsLeft wsFault
-returns-4 c = (c .refused4 .ensures ∙ rw (← c .before .before .before .before .before .before .before .before .before .lengths-agree .ensures, c .before .before .before .before .before .before .before .before .if1 .taken, ← c .before .before .before .before .before .before .before .start-in-range .ensures, c .before .before .before .before .before .before .if2 .taken, le-leb _ _ (c .before .before .before .before .before .if3 .taken), ← c .before .before .before .before .first-bad-violation .ensures, c .before .before .j .given .1), rw (← c .before .before .before .before .before .before .before .before .before .lengths-agree .ensures, c .before .before .before .before .before .before .before .before .if1 .taken, ← c .before .before .before .before .before .before .before .start-in-range .ensures, c .before .before .before .before .before .before .if2 .taken, le-leb _ _ (c .before .before .before .before .before .if3 .taken), ← c .before .before .before .before .first-bad-violation .ensures, c .before .before .j .given .1))
+returns-4 c =
+    let at-first-bad-violation = c .before .before .before .before in
+    let at-if3 = at-first-bad-violation .before in
+    let at-if2 = at-if3 .before in
+    let at-start-in-range = at-if2 .before in
+    let at-if1 = at-start-in-range .before in
+    let at-lengths-agree = at-if1 .before in (
+      c .refused4 .ensures ∙ rw (
+        ← at-lengths-agree .lengths-agree .ensures,
+        at-if1 .if1 .taken,
+        ← at-start-in-range .start-in-range .ensures,
+        at-if2 .if2 .taken,
+        le-leb _ _ (at-if3 .if3 .taken),
+        ← at-first-bad-violation .first-bad-violation .ensures,
+        c .before .before .j .given .1,
+      ),
+      rw (
+        ← at-lengths-agree .lengths-agree .ensures,
+        at-if1 .if1 .taken,
+        ← at-start-in-range .start-in-range .ensures,
+        at-if2 .if2 .taken,
+        le-leb _ _ (at-if3 .if3 .taken),
+        ← at-first-bad-violation .first-bad-violation .ensures,
+        c .before .before .j .given .1,
+      ),
+    )
 
 enum-told : tie.Need-enum-told
 enum-told c = search needs
@@ -76,14 +131,54 @@ slice-aggregate-construct-ws : tie.Need-slice-aggregate-construct-ws
 slice-aggregate-construct-ws c = sym (length-take-le _ _ (c .before .before .before .before .if3 .taken))
 
 construct-ws-requires : tie.Need-construct-ws-requires
-construct-ws-requires c κs = let e = agreed _ _ _ (c .before .before .before .before .before .before .before .before .lengths-agree .ensures) (c .before .before .before .before .before .before .before .if1 .taken) in (e .1, e .0, within _ _ _ (c .before .before .before .before .before .before .start-in-range .ensures) (c .before .before .before .before .before .if2 .taken), length-take-le _ _ (c .before .before .before .before .if3 .taken))
+construct-ws-requires c κs =
+    let at-lengths-agree = c .before .before .before .before .before .before .before .before in
+    let e = agreed _ _ _ (at-lengths-agree .lengths-agree .ensures) (c .before .before .before .before .before .before .before .if1 .taken)
+    in (
+      e .1,
+      e .0,
+      within _ _ _ (c .before .before .before .before .before .before .start-in-range .ensures)
+          (c .before .before .before .before .before .if2 .taken),
+      length-take-le _ _ (c .before .before .before .before .if3 .taken),
+      numbers-of _ _ (sym (c .before .before .before .first-bad-violation .ensures) ∙ c .before .enum-told .given .1),
+    )
 
 same-length : tie.Need-same-length
 same-length c = search needs
 
 returns-5 : tie.Need-returns-5
 unfolding wsCall wsLeft wsFault
-returns-5 c = (rw (← c .before .before .before .before .before .before .before .before .before .before .before .lengths-agree .ensures, c .before .before .before .before .before .before .before .before .before .before .if1 .taken, ← c .before .before .before .before .before .before .before .before .before .start-in-range .ensures, c .before .before .before .before .before .before .before .before .if2 .taken, le-leb _ _ (c .before .before .before .before .before .before .before .if3 .taken), ← c .before .before .before .before .before .before .first-bad-violation .ensures, c .before .before .before .before .enum-told .given .1) (ap answered (c .before .before .construct-ws .ensures .0)), rw (← c .before .before .before .before .before .before .before .before .before .before .before .lengths-agree .ensures, c .before .before .before .before .before .before .before .before .before .before .if1 .taken, ← c .before .before .before .before .before .before .before .before .before .start-in-range .ensures, c .before .before .before .before .before .before .before .before .if2 .taken, le-leb _ _ (c .before .before .before .before .before .before .before .if3 .taken), ← c .before .before .before .before .before .before .first-bad-violation .ensures, c .before .before .before .before .enum-told .given .1) (put-front (now (c .before .before .before .before .before .before .before .before .before .before .before .before .before .before .before .args .indices)) (length (now (c .before .before .before .before .before .before .before .before .before .before .before .before .before .before .before .args .w))) (c .before .before .construct-ws .last .1 .1 .1 .0) _ (c .before .before .before .before .before .before .before .if3 .taken) (c .before .before .construct-ws .kept .1 .1 .1 .0) (c .before .before .construct-ws .ensures .1)))
+returns-5 c =
+    let at-enum-told = c .before .before .before .before in
+    let at-first-bad-violation = at-enum-told .before .before in
+    let at-if3 = at-first-bad-violation .before in
+    let at-if2 = at-if3 .before in
+    let at-start-in-range = at-if2 .before in
+    let at-if1 = at-start-in-range .before in
+    let at-lengths-agree = at-if1 .before in
+    let entry = at-lengths-agree .before .before .before .before in (
+      rw (
+        ← at-lengths-agree .lengths-agree .ensures,
+        at-if1 .if1 .taken,
+        ← at-start-in-range .start-in-range .ensures,
+        at-if2 .if2 .taken,
+        le-leb _ _ (at-if3 .if3 .taken),
+        ← at-first-bad-violation .first-bad-violation .ensures,
+        at-enum-told .enum-told .given .1,
+      )
+          (ap answered (c .before .before .construct-ws .ensures .0)),
+      rw (
+        ← at-lengths-agree .lengths-agree .ensures,
+        at-if1 .if1 .taken,
+        ← at-start-in-range .start-in-range .ensures,
+        at-if2 .if2 .taken,
+        le-leb _ _ (at-if3 .if3 .taken),
+        ← at-first-bad-violation .first-bad-violation .ensures,
+        at-enum-told .enum-told .given .1,
+      )
+          (put-front (now (entry .args .indices)) (length (now (entry .args .w))) (c .before .before .construct-ws .last .1 .1 .1 .0) _
+          (at-if3 .if3 .taken) (c .before .before .construct-ws .kept .1 .1 .1 .0) (c .before .before .construct-ws .ensures .1)),
+    )
 
 pub construct-ws-from-kkt-spec : {M : Type 1} → statement M
 construct-ws-from-kkt-spec =

@@ -14,31 +14,87 @@ clear-indices-requires : tie.Need-clear-indices-requires
 clear-indices-requires c κs = search needs
 
 support-requires : tie.Need-support-requires
-support-requires c κs = (c .before .before .before .clear-indices .ensures ∙ ap (tab (λ k. 0)) (c .before .before .before .before .before .before .before .before .pre .3), c .before .before .before .before .before .before .before .before .pre .1)
+support-requires c κs =
+    let entry = c .before .before .before .before .before .before .before .before in
+    (c .before .before .before .clear-indices .ensures ∙ ap (tab (λ k. 0)) (entry .pre .3), entry .pre .1)
 
 size-requires : tie.Need-size-requires
-size-requires c κs = let e = support-few (now (c .before .before .before .before .before .before .before .before .before .before .before .args .w)) (length (now (c .before .before .before .before .before .before .before .before .before .before .before .args .w))) in let q = c .before .before .support .ensures .0 in let r = c .before .before .before .before .before .before .before .before .before .before .before .pre .1 in omega arith
+size-requires c κs =
+    let entry = c .before .before .before .before .before .before .before .before .before .before .before in
+    let few = support-few (now (entry .args .w)) (length (now (entry .args .w))) in
+    let many = c .before .before .support .ensures .0 in
+    let most = entry .pre .1 in
+    omega arith
 
 mul-rank : tie.Need-mul-rank
-mul-rank c = let e = bounds (c .before .before .before .before .before .before .before .before .before .before .before .before .args .start) (now (c .before .before .before .before .before .before .before .before .before .before .before .before .args .kkt)) (now (c .before .before .before .before .before .before .before .before .before .before .before .before .args .w)) (c .before .before .before .support .result) (c .size .result) (c .before .before .before .before .before .before .before .before .before .before .before .before .pre .2) (c .before .before .before .support .ensures .0) (c .size .ensures) in let r = c .before .before .before .before .before .before .before .before .before .before .before .before .pre .1 in let q = e .0 in let z = e .1 in search needs
+mul-rank c =
+    let at-support = c .before .before .before in
+    let entry = at-support .before .before .before .before .before .before .before .before .before in
+    let e =
+    bounds (entry .args .start) (now (entry .args .kkt)) (now (entry .args .w)) (at-support .support .result) (c .size .result)
+    (entry .pre .2) (at-support .support .ensures .0) (c .size .ensures) in
+    let low = e .0 in
+    let high = e .1 in
+    let most = entry .pre .1 in
+    search needs
 
 sub-rank : tie.Need-sub-rank
-sub-rank c = bounds (c .before .before .before .before .before .before .before .before .before .before .before .before .args .start) (now (c .before .before .before .before .before .before .before .before .before .before .before .before .args .kkt)) (now (c .before .before .before .before .before .before .before .before .before .before .before .before .args .w)) (c .before .before .before .support .result) (c .size .result) (c .before .before .before .before .before .before .before .before .before .before .before .before .pre .2) (c .before .before .before .support .ensures .0) (c .size .ensures) .0
+sub-rank c =
+    let at-support = c .before .before .before in
+    let entry = at-support .before .before .before .before .before .before .before .before .before in
+    bounds (entry .args .start) (now (entry .args .kkt)) (now (entry .args .w)) (at-support .support .result) (c .size .result)
+    (entry .pre .2) (at-support .support .ensures .0) (c .size .ensures) .0
 
 part-rank-start : tie.Need-part-rank-start
-part-rank-start c = bounds (c .before .before .before .before .before .before .before .before .before .before .before .before .args .start) (now (c .before .before .before .before .before .before .before .before .before .before .before .before .args .kkt)) (now (c .before .before .before .before .before .before .before .before .before .before .before .before .args .w)) (c .before .before .before .support .result) (c .size .result) (c .before .before .before .before .before .before .before .before .before .before .before .before .pre .2) (c .before .before .before .support .ensures .0) (c .size .ensures) .0
+part-rank-start c =
+    let at-support = c .before .before .before in
+    let entry = at-support .before .before .before .before .before .before .before .before .before in
+    bounds (entry .args .start) (now (entry .args .kkt)) (now (entry .args .w)) (at-support .support .result) (c .size .result)
+    (entry .pre .2) (at-support .support .ensures .0) (c .size .ensures) .0
 
 part-rank-end : tie.Need-part-rank-end
-part-rank-end c = let e = bounds (c .before .before .before .before .before .before .before .before .before .before .before .before .args .start) (now (c .before .before .before .before .before .before .before .before .before .before .before .before .args .kkt)) (now (c .before .before .before .before .before .before .before .before .before .before .before .before .args .w)) (c .before .before .before .support .result) (c .size .result) (c .before .before .before .before .before .before .before .before .before .before .before .before .pre .2) (c .before .before .before .support .ensures .0) (c .size .ensures) .1 in let x = c .before .before .before .support .kept .1 .0 in let y = c .before .before .before .before .before .before .before .clear-indices .kept .0 in let z = c .before .before .before .before .before .before .before .before .before .before .before .before .pre .3 in omega arith
+part-rank-end c =
+    let at-support = c .before .before .before in
+    let at-clear = at-support .before .before .before .before in
+    let entry = at-clear .before .before .before .before .before in
+    let high =
+    bounds (entry .args .start) (now (entry .args .kkt)) (now (entry .args .w)) (at-support .support .result) (c .size .result)
+    (entry .pre .2) (at-support .support .ensures .0) (c .size .ensures) .1 in
+    let long = at-support .support .kept .1 .0 in
+    let long' = at-clear .clear-indices .kept .0 in
+    let room = entry .pre .3 in
+    omega arith
 
 rank-requires : tie.Need-rank-requires
-rank-requires c κs = (c .before .before .before .before .before .before .before .before .before .before .before .before .before .pre .0, c .before .before .before .before .before .before .before .before .before .before .before .before .before .pre .1, rank-room (c .before .before .before .before .before .before .before .before .before .before .before .before .before .args .start) (now (c .before .before .before .before .before .before .before .before .before .before .before .before .before .args .kkt)) (now (c .before .before .before .before .before .before .before .before .before .before .before .before .before .args .w)) (c .before .before .before .before .support .result) (c .before .size .result) (c .before .before .before .before .before .before .before .before .before .before .before .before .before .pre .2) (c .before .before .before .before .support .ensures .0) (c .before .size .ensures) (c .before .before .before .before .support .last .1 .0) (c .before .before .before .before .support .kept .1 .0 ∙ c .before .before .before .before .before .before .before .before .clear-indices .kept .0 ∙ c .before .before .before .before .before .before .before .before .before .before .before .before .before .pre .3))
+rank-requires c κs =
+    let at-support = c .before .before .before .before in
+    let at-clear-indices = at-support .before .before .before .before in
+    let entry = at-clear-indices .before .before .before .before .before in (
+      entry .pre .0,
+      entry .pre .1,
+      rank-room (entry .args .start) (now (entry .args .kkt)) (now (entry .args .w)) (at-support .support .result) (c .before .size .result)
+          (entry .pre .2) (at-support .support .ensures .0) (c .before .size .ensures) (at-support .support .last .1 .0)
+          (at-support .support .kept .1 .0 ∙ at-clear-indices .clear-indices .kept .0 ∙ entry .pre .3),
+      entry .pre .4,
+    )
 
 same-length : tie.Need-same-length
 same-length c = search needs
 
 returns : tie.Need-returns
-returns c = (sized (c .before .before .before .before .before .before .before .before .before .before .before .before .before .before .before .before .args .start) (now (c .before .before .before .before .before .before .before .before .before .before .before .before .before .before .before .before .args .kkt)) (now (c .before .before .before .before .before .before .before .before .before .before .before .before .before .before .before .before .args .w)) (c .before .before .before .before .before .before .before .support .result) (c .before .before .before .before .size .result) (c .before .before .before .before .before .before .before .before .before .before .before .before .before .before .before .before .pre .2) (c .before .before .before .before .before .before .before .support .ensures .0) (c .before .before .before .before .size .ensures), set-made (c .before .before .before .before .before .before .before .before .before .before .before .before .before .before .before .before .args .start) (now (c .before .before .before .before .before .before .before .before .before .before .before .before .before .before .before .before .args .kkt)) (now (c .before .before .before .before .before .before .before .before .before .before .before .before .before .before .before .before .args .w)) (c .before .before .before .before .before .before .before .support .result) (c .before .before .before .before .size .result) (c .before .before .before .before .before .before .before .before .before .before .before .before .before .before .before .before .pre .2) (c .before .before .before .before .before .before .before .support .ensures .0) (c .before .before .before .before .size .ensures) (c .before .before .before .before .before .before .before .support .last .1 .0) (c .before .before .rank .last .1 .1 .0) (c .before .before .before .before .before .before .before .support .kept .1 .0 ∙ c .before .before .before .before .before .before .before .before .before .before .before .clear-indices .kept .0 ∙ c .before .before .before .before .before .before .before .before .before .before .before .before .before .before .before .before .pre .3) (c .before .before .before .before .before .before .before .support .ensures .1) (c .before .before .rank .ensures))
+returns c =
+    let at-size = c .before .before .before .before in
+    let at-support = at-size .before .before .before in
+    let at-clear-indices = at-support .before .before .before .before in
+    let entry = at-clear-indices .before .before .before .before .before in (
+      sized (entry .args .start) (now (entry .args .kkt)) (now (entry .args .w)) (at-support .support .result) (at-size .size .result)
+          (entry .pre .2) (at-support .support .ensures .0) (at-size .size .ensures),
+      set-made (entry .args .start) (now (entry .args .kkt)) (now (entry .args .w)) (at-support .support .result) (at-size .size .result)
+          (entry .pre .2) (at-support .support .ensures .0) (at-size .size .ensures) (at-support .support .last .1 .0)
+          (c .before .before .rank .last .1 .1 .0)
+          (at-support .support .kept .1 .0 ∙ at-clear-indices .clear-indices .kept .0 ∙ entry .pre .3) (at-support .support .ensures .1)
+          (c .before .before .rank .ensures),
+    )
 
 pub construct-ws-spec : {M : Type 1} → statement M
 construct-ws-spec =

@@ -10,13 +10,22 @@ use Rattle.worksets.proofs.inner.support.Statement.{statement}
 use Rattle.worksets.proofs.inner.support.Tie as tie
 
 abbrev Inv-loop : tie.InvT-loop
-Inv-loop w indices₀ c₀ j₀ indices c j = (j ≤ length w) × (length w ≤ 8192) × (length indices ≡ length indices₀) × (length indices ≡ length w) × (c ≡ length (support w j)) × (indices ≡ padded (support w j) (length w))
+Inv-loop w indices₀ c₀ j₀ indices c j =
+    (j ≤ length w) × (length w ≤ 8192) × (length indices ≡ length indices₀) × (length indices ≡ length w) × (c ≡ length (support w j)) ×
+    (indices ≡ padded (support w j) (length w))
 
 abbrev μ-loop : tie.MeasureT-loop
 μ-loop w indices₀ c₀ j₀ indices c j = length w - j
 
 loop-holds : tie.Need-loop-holds Inv-loop μ-loop
-loop-holds c = (search needs, search needs, refl, ap length (c .before .before .pre .0) ∙ length-tab _ _, support-start _, support-none _ _ _ (c .before .before .pre .0))
+loop-holds c = (
+  search needs,
+  search needs,
+  refl,
+  ap length (c .before .before .pre .0) ∙ length-tab _ _,
+  support-start _,
+  support-none _ _ _ (c .before .before .pre .0),
+)
 
 mul-append : tie.Need-mul-append Inv-loop μ-loop
 mul-append c = search needs
@@ -25,7 +34,11 @@ shared-slice-read-append : tie.Need-shared-slice-read-append Inv-loop μ-loop
 shared-slice-read-append c = search needs
 
 append-requires : tie.Need-append-requires Inv-loop μ-loop
-append-requires c κs = (support-room _ _ _ _ (c .before .before .before .loop .indices) (c .before .before .before .loop .inv .4) (c .before .before .loop-test .taken) (c .before .before .before .loop .inv .3), search needs)
+append-requires c κs = (
+  support-room _ _ _ _ (c .before .before .before .loop .indices) (c .before .before .before .loop .inv .4)
+      (c .before .before .loop-test .taken) (c .before .before .before .loop .inv .3),
+  search needs,
+)
 
 add-j : tie.Need-add-j Inv-loop μ-loop
 add-j c = search needs
@@ -34,7 +47,16 @@ loop-less : tie.Need-loop-less Inv-loop μ-loop
 loop-less c = search needs
 
 loop-again : tie.Need-loop-again Inv-loop μ-loop
-loop-again c = (search needs, search needs, search needs, search needs, support-count _ _ _ _ (c .before .before .before .before .before .before .loop .inv .4) (c .before .before .append .ensures .0), support-turn _ _ _ _ _ _ (c .before .before .before .before .before .loop-test .taken) (c .before .before .before .before .before .before .loop .inv .4) (c .before .before .before .before .before .before .loop .inv .5) (c .before .before .append .ensures .1))
+loop-again c = (
+  search needs,
+  search needs,
+  search needs,
+  search needs,
+  support-count _ _ _ _ (c .before .before .before .before .before .before .loop .inv .4) (c .before .before .append .ensures .0),
+  support-turn _ _ _ _ _ _ (c .before .before .before .before .before .loop-test .taken)
+      (c .before .before .before .before .before .before .loop .inv .4) (c .before .before .before .before .before .before .loop .inv .5)
+      (c .before .before .append .ensures .1),
+)
 
 same-length : tie.Need-same-length Inv-loop μ-loop
 same-length c = search needs

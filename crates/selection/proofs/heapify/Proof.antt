@@ -1,0 +1,65 @@
+-- `heapify`: the invariant is that the places from k on are a heap. Assumes nothing.
+use denote.Ref.{now}
+use Rattle.selection.specs.Inner.Heap.{ahead, Number}
+use Rattle.selection.proofs.Laws.Heap.{HeapAt, heaped-none, heaped-next, heaped-good, heaped-turn, heaped-all}
+use borrow.Author.Needs.{needs}
+use Rattle.selection.proofs.heapify.Statement.{statement}
+use Rattle.selection.proofs.heapify.Tie as tie
+
+abbrev Inv-loop : tie.InvT-loop
+Inv-loop kkt kept₀ k₀ kept k = HeapAt (ahead kkt) (Number kkt) kept₀ kept k
+
+abbrev μ-loop : tie.MeasureT-loop
+μ-loop kkt kept₀ k₀ kept k = k
+
+loop-holds : tie.Need-loop-holds Inv-loop μ-loop
+loop-holds c = let entry = c .before .before in heaped-none (ahead (now (entry .args .kkt))) (entry .pre .1)
+
+sub-k : tie.Need-sub-k Inv-loop μ-loop
+sub-k c = search needs
+
+mul-x : tie.Need-mul-x Inv-loop μ-loop
+mul-x c = search needs
+
+slice-read-x : tie.Need-slice-read-x Inv-loop μ-loop
+slice-read-x c = search needs
+
+sink-requires : tie.Need-sink-requires Inv-loop μ-loop
+sink-requires c κs = (
+  search needs,
+  search needs,
+  c .before .before .before .loop .inv .known,
+  heaped-good (c .before .before .before .loop .inv) (c .before .before .loop-test .taken),
+  heaped-next (c .before .before .before .loop .inv) (c .before .before .loop-test .taken),
+)
+
+loop-less : tie.Need-loop-less Inv-loop μ-loop
+loop-less c = search needs
+
+loop-again : tie.Need-loop-again Inv-loop μ-loop
+loop-again c =
+    let sunk = c .before .before .sink in
+    let at-test = c .before .before .before .before .before in
+    heaped-turn (at-test .before .loop .inv) (at-test .loop-test .taken) (sunk .last .1 .0) (sunk .kept .1 .0) (sunk .ensures .0) (sunk .ensures .1)
+
+same-length : tie.Need-same-length Inv-loop μ-loop
+same-length c = search needs
+
+returns : tie.Need-returns Inv-loop μ-loop
+returns c = heaped-all (c .before .loop .inv) (c .loop-test .left)
+
+pub heapify-spec : {M : Type 1} → statement M
+heapify-spec =
+    tie.close
+    (tie.spec
+    Inv-loop
+    μ-loop
+    loop-holds
+    sub-k
+    mul-x
+    slice-read-x
+    sink-requires
+    loop-less
+    loop-again
+    same-length
+    returns)
