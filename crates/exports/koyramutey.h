@@ -59,6 +59,21 @@ uint32_t koyramutey_full_grad_dense(
     double *grad, size_t grad_len,
     size_t *place);
 
+/* The working set of p = w_len weights and their violations, from a start size: all features with nonzero weight in index order, then the
+   others by falling violation, equal ones by lower index, cut at max(start, min(2·nonzero, p)), where nonzero counts the nonzero weights.
+   The first p places of indices get the set, then 0; *size is its size.
+
+   Limits: p from 1 to 8,192 and violations_len = w_len, else 1; start from 1 to p, else 2; room for p indices, else 3; 8, with the first
+   such feature as the place, where a weight is zero and its violation is NaN, infinite or negative. A refusal changes no place of indices
+   and leaves *size as it was. */
+uint32_t koyramutey_working_set(
+    const double *violations, size_t violations_len,
+    const double *w, size_t w_len,
+    size_t start,
+    uint32_t *indices, size_t indices_len,
+    size_t *size,
+    size_t *place);
+
 /* The product of a column of a dense design and the first n places of v. Sizes alone are tested (1 and 3), no number. */
 uint32_t koyramutey_column_product_dense(
     size_t n, size_t p,

@@ -13,6 +13,7 @@ use Rattle.solvers.specs.Buffers.{lent}
 use Rattle.exports.proofs.koyramutey_fit_dense.Reads as fit-dense-reads
 use Rattle.exports.proofs.koyramutey_fit_csc.Reads as fit-csc-reads
 use Rattle.exports.proofs.koyramutey_full_grad_dense.Reads as full-grad-reads
+use Rattle.exports.proofs.koyramutey_working_set.Reads as working-set-reads
 use Rattle.exports.proofs.koyramutey_column_product_dense.Reads as column-product-reads
 use Rattle.exports.proofs.koyramutey_column_update_dense.Reads as column-update-reads
 
@@ -59,6 +60,13 @@ fit-csc-tight κs a r r' s s' p q = (coincide (p .0) (q .0), coincide (p .1) (q 
 
 full-grad-dense-tight : (κs : _) (a : _) (r r' : _) (s s' : _) → full-grad-reads.Post κs a r s → full-grad-reads.Post κs a r' s' → (r ≡ r') × (now (s .1 .1 .1 .1 .1 .0) ≡ now (s' .1 .1 .1 .1 .1 .0)) × (now (s .1 .1 .1 .1 .1 .1 .0) ≡ now (s' .1 .1 .1 .1 .1 .1 .0))
 full-grad-dense-tight κs a r r' s s' p q = (coincide (p .0) (q .0), coincide (p .2) (q .2), coincide (p .1) (q .1))
+
+-- t begins with the index places, then the size and the place
+working-set-tight : (κs : _) (a : _) (r r' : _) (s s' : _) → working-set-reads.Post κs a r s → working-set-reads.Post κs a r' s'
+    → let t = s .1 .1 .1 in
+    let t' = s' .1 .1 .1 in
+    (r ≡ r') × (now (t .1 .1 .0) ≡ now (t' .1 .1 .0)) × (now (t .1 .0) ≡ now (t' .1 .0)) × (now (t .0) ≡ now (t' .0))
+working-set-tight κs a r r' s s' p q = (coincide (p .0) (q .0), coincide (p .1) (q .1), coincide (p .2) (q .2), coincide (p .3) (q .3))
 
 column-product-dense-tight : (κs : _) (a : _) (r r' : _) (s s' : _) → column-product-reads.Post κs a r s → column-product-reads.Post κs a r' s'
     → (r ≡ r') × (now (s .1 .1 .1 .1 .1 .1 .0) ≡ now (s' .1 .1 .1 .1 .1 .1 .0)) × (now (s .1 .1 .1 .1 .1 .0) ≡ now (s' .1 .1 .1 .1 .1 .0))

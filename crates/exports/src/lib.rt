@@ -1,10 +1,14 @@
 // Calls for programs in other languages: numbers, slices and references to numbers. A slice passes as a pointer and then a length. Each
 // answers document 01's refusal number, 0 where there is none; where a refusal has a place, it is left in `place`.
 ghost use mathlib.Core.Path.{_≡_};
+ghost use Prim.Native.Nat.{ℕ};
 ghost use lib.ListN.{length};
+ghost use Rattle.designs.specs.Checks.{Fault, after, left};
 ghost use Rattle.designs.specs.Design as def;
 ghost use Rattle.datafits.specs.Calls as calls;
 ghost use Rattle.runs.specs.Call as call;
+ghost use Rattle.runs.specs.WorkingSet as set;
+ghost use Rattle.worksets.specs.Call as sets;
 ghost use Rattle.solvers.specs.Buffers.{lent};
 ghost use Rattle.codes.specs.Codes as codes;
 ghost use Rattle.codes.specs.Codes.{numberOfFault, placeOfFault};
@@ -20,6 +24,8 @@ use columns::column_update;
 use designs::Feature;
 use designs::Verdict;
 use solvers::coordinate_descent;
+use worksets::WorkingSet;
+use worksets::construct_ws_from_kkt;
 
 // ---- whole calls
 
@@ -166,6 +172,46 @@ pub extern "C" fn koyramutey_full_grad_dense(
     let none = [0u32; 0];
     let verdict = datafits::full_grad(dense(n, p), &none, &none, values, prepared, fit, grad);
     tell_verdict(verdict, place)
+}
+
+// ---- the working set
+
+// A working set's answer in the caller's numbers, whichever fault and size it stands for. A refusal does not write the size.
+fn tell_size(answer: WorkingSet, size: &mut usize, place: &mut usize) -> u32
+    ensures { λ r. ⌜ ((fault : Fault) (count : ℕ) → sets.sizeOf answer ≡ after fault count
+        → (r ≡ numberOfFault fault) × (now (place .exit) ≡ placeOfFault fault) × (now (size .exit) ≡ left fault count (now (size .entry)))) ⌝ }
+{
+    match answer {
+        WorkingSet::Refused(refusal) => {
+            *place = refusal.place;
+            refusal.number
+        }
+        WorkingSet::Size(count) => {
+            *size = count;
+            *place = 0;
+            0
+        }
+    }
+}
+
+// worksets::construct_ws_from_kkt. The size of the set is left in `size`.
+#[no_mangle]
+pub extern "C" fn koyramutey_working_set(
+    violations: &[f64],
+    w: &[f64],
+    start: usize,
+    indices: &mut [u32],
+    size: &mut usize,
+    place: &mut usize,
+) -> u32
+    ensures { λ r. ⌜ (let fault = sets.wsFault (now (violations .entry)) (now (w .entry)) start (now (indices .entry)) in
+        (r ≡ numberOfFault fault)
+        × (now (place .exit) ≡ placeOfFault fault)
+        × (now (size .exit) ≡ left fault (set.size start (now (w .entry))) (now (size .entry)))
+        × (now (indices .exit) ≡ sets.wsLeft (now (violations .entry)) (now (w .entry)) start (now (indices .entry)))) ⌝ }
+{
+    let answer = construct_ws_from_kkt(violations, w, start, indices);
+    tell_size(answer, size, place)
 }
 
 // ---- one column: for callers that have checked their design. Only sizes are tested, so a call costs no more than its column.
