@@ -17,6 +17,10 @@ extern "C" {
         w: *mut f64, w_len: usize, fit: *mut f64, fit_len: usize, indices: *mut u32, indices_len: usize, scratch: *mut f64, scratch_len: usize,
         status: *mut u32, violation: *mut f64, sets: *mut usize, passes: *mut usize, accepted: *mut usize, place: *mut usize,
     ) -> u32;
+    fn koyramutey_working_set(
+        violations: *const f64, violations_len: usize, w: *const f64, w_len: usize, start: usize,
+        indices: *mut u32, indices_len: usize, size: *mut usize, place: *mut usize,
+    ) -> u32;
 }
 
 /// What is lent to a fit.
@@ -76,4 +80,24 @@ pub fn fit(case: &Case, lent: &mut Buffers) -> Ending {
     assert_eq!(place, 0, "a place without a refusal");
     let (weights, fit) = (lent.w[..p].to_vec(), lent.fit[..n].to_vec());
     Ending::Fitted { status, violation, counts: counts.map(|count| count as u64), weights, fit }
+}
+
+/// What size and place hold before a call: no size and no place of a call that takes its input.
+const BEFORE: usize = 0xdead_beef;
+
+/// The size of the set, which is in the index places then; or the refusal's number and place.
+pub fn working_set(violations: &[f64], w: &[f64], start: usize, indices: &mut [u32]) -> Result<usize, (u32, usize)> {
+    let (mut size, mut place) = (BEFORE, BEFORE);
+    let number = unsafe {
+        koyramutey_working_set(
+            pointer(violations), violations.len(), pointer(w), w.len(), start,
+            pointer_mut(indices), indices.len(), &mut size, &mut place,
+        )
+    };
+    if number != 0 {
+        assert_eq!(size, BEFORE, "a refusal wrote a size");
+        return Err((number, place));
+    }
+    assert_eq!(place, 0, "a place without a refusal");
+    Ok(size)
 }

@@ -44,7 +44,7 @@ pub struct Named {
 }
 
 /// splitmix64.
-struct Random(u64);
+pub struct Random(pub u64);
 
 impl Random {
     fn next(&mut self) -> u64 {
@@ -56,11 +56,11 @@ impl Random {
     }
 
     /// From -1 to 1.
-    fn unit(&mut self) -> f64 {
+    pub fn unit(&mut self) -> f64 {
         (self.next() >> 11) as f64 / (1u64 << 52) as f64 - 1.0
     }
 
-    fn below(&mut self, bound: u64) -> u64 {
+    pub fn below(&mut self, bound: u64) -> u64 {
         self.next() % bound
     }
 }
@@ -343,15 +343,23 @@ pub enum Ending {
     Fitted { status: u32, violation: f64, counts: [u64; 3], weights: Vec<f64>, fit: Vec<f64> },
 }
 
-/// FNV-1a over the bits of the numbers.
-fn digest(numbers: &[f64]) -> u64 {
-    let bytes = numbers.iter().flat_map(|x| x.to_bits().to_le_bytes());
+/// FNV-1a.
+pub fn digest_of(bytes: impl Iterator<Item = u8>) -> u64 {
     bytes.fold(0xcbf2_9ce4_8422_2325, |hash, byte| (hash ^ u64::from(byte)).wrapping_mul(0x0100_0000_01b3))
+}
+
+/// Of the bits of the numbers.
+fn digest(numbers: &[f64]) -> u64 {
+    digest_of(numbers.iter().flat_map(|x| x.to_bits().to_le_bytes()))
+}
+
+pub fn refused_line(name: &str, number: u32, place: u64) -> String {
+    format!("{name} refused {number} at {place}")
 }
 
 pub fn line(name: &str, ending: &Ending) -> String {
     match ending {
-        Ending::Refused { number, place } => format!("{name} refused {number} at {place}"),
+        Ending::Refused { number, place } => refused_line(name, *number, *place),
         Ending::Fitted { status, violation, counts: [iterations, epochs, extrapolations], weights, fit } => format!(
             "{name} status {status} violation {:016x} iterations {iterations} epochs {epochs} extrapolations {extrapolations} nonzero {} weights {:016x} fit {:016x}",
             violation.to_bits(),

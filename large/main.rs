@@ -1,8 +1,11 @@
-//! Fits the problems of full size (cases.rs) through the library's exports, and prints a line for each, which the script `run` compares with the
-//! oracle's. The lent buffers are longer than their room and hold other numbers; what must stay and what must be zero is tested after each call.
+//! Fits the problems of full size (cases.rs) through the library's exports, then builds the working sets (sets.rs), and prints a line for each, which
+//! the script `run` compares with the oracle's. The lent buffers are longer than their room and hold other numbers; what must stay and what must be
+//! zero is tested after each call.
 
 mod calls;
 mod cases;
+mod set_cases;
+mod sets;
 
 use calls::{fit, Buffers};
 use cases::{cases, line, Case, Ending};
@@ -12,10 +15,14 @@ const GUARDS: usize = 3;
 const GUARD: f64 = -7.25e77;
 const INDEX_GUARD: u32 = 0xdead_beef;
 
-/// A buffer that is to be too short has no guards.
+/// How long a buffer is with its guards. One that is to be too short has none.
+fn guarded(lent: usize, room: usize) -> usize {
+    if lent < room { lent } else { lent + GUARDS }
+}
+
 fn lent(case: &Case) -> Buffers {
     let room = case.room();
-    let length = |which: usize| case.lent[which] as usize + if case.lent[which] < room[which] { 0 } else { GUARDS };
+    let length = |which: usize| guarded(case.lent[which] as usize, room[which] as usize);
     Buffers {
         w: vec![GUARD; length(0)],
         fit: vec![GUARD; length(1)],
@@ -54,4 +61,5 @@ fn main() {
         let kept = if left_as_promised(&case, &ending, &buffers) { "" } else { " BUFFERS" };
         println!("{}{kept}", line(&named.name, &ending));
     }
+    sets::print_lines();
 }

@@ -62,17 +62,22 @@ impl Case for FitCase {
 }
 
 impl SetCase {
-    fn answers_of<V: Runs>(&self) -> Answers {
+    /// The size, and the lent buffer as it is afterwards. Of a refusal 0, and the
+    /// buffer as it was.
+    pub fn left_by<V: Runs>(&self) -> (usize, Vec<u32>) {
         let mut indices = self.indices.clone();
-        let refusal = self.refusal();
-        let (number, place) = refusal.unwrap_or((0, 0));
-        let mut size = 0;
-        if refusal.is_none() {
-            let set = V::working_set(&self.weights, &self.violations, self.start as usize);
-            size = set.len();
-            indices[..self.weights.len()].fill(0);
-            indices[..size].copy_from_slice(&set);
+        if self.refusal().is_some() {
+            return (0, indices);
         }
+        let set = V::working_set(&self.weights, &self.violations, self.start as usize);
+        indices[..self.weights.len()].fill(0);
+        indices[..set.len()].copy_from_slice(&set);
+        (set.len(), indices)
+    }
+
+    fn answers_of<V: Runs>(&self) -> Answers {
+        let (number, place) = self.refusal().unwrap_or((0, 0));
+        let (size, indices) = self.left_by::<V>();
         let mut answers = status(number, place);
         answers.push(("size", Word::Count(size as u32)));
         let indices = indices.into_iter().map(Word::Count);

@@ -58,11 +58,11 @@ pub struct FitCase {
 /// The working set of given weights and violations.
 #[derive(Clone, Debug)]
 pub struct SetCase {
-    weights: Vec<f64>,
-    violations: Vec<f64>,
-    start: u32,
+    pub weights: Vec<f64>,
+    pub violations: Vec<f64>,
+    pub start: u32,
     /// The lent buffer as it is before the call.
-    indices: Vec<u32>,
+    pub indices: Vec<u32>,
 }
 
 impl Settings {
