@@ -11,12 +11,16 @@ mod fast;
 mod float;
 mod kernels;
 mod others;
+#[allow(dead_code)] // The test program's cases; their orders are timed here.
+#[path = "../../large/set_cases.rs"]
+mod set_cases;
+mod sets;
 mod steps;
 mod timing;
 
 use calls::Buffers;
 use cases::{csc, dense, line, Case, Ending, Penalty};
-use timing::{time, Row};
+use timing::{time, Row, MICROSECONDS, MILLISECONDS};
 
 /// Every buffer holds zeros before a call, of whichever program.
 fn lent(case: &Case) -> Buffers {
@@ -58,7 +62,7 @@ fn fits(name: &str, case: &Case, turns: usize, with_others: bool) {
     }
     eprintln!("{}", line(name, &found.expect("one turn at least")));
     let (sklearn, glmnet) = if with_others { others::times(case) } else { (None, None) };
-    timing::print_row(&Row { name: name.into(), ours, others: vec![Some(stepwise), Some(quick), sklearn, glmnet] });
+    MILLISECONDS.print_row(&Row { name: name.into(), ours, others: vec![Some(stepwise), Some(quick), sklearn, glmnet] });
 }
 
 fn extrapolated(case: &Case) -> Case {
@@ -76,11 +80,14 @@ fn family(name: &str, make: impl Fn(f64) -> Case, turns: usize) {
 
 fn main() {
     let (square, tall) = (dense(1_000, 2_000, 0.0, 0.1), dense(65_536, 256, 0.0, 0.1));
-    timing::print_head("kernel", &["Rust of the same steps"]);
-    kernels::rows(1_000, 2_000, &square.values).iter().for_each(timing::print_row);
-    kernels::rows(65_536, 256, &tall.values).iter().for_each(timing::print_row);
+    MILLISECONDS.print_head("kernel", &["Rust of the same steps"]);
+    kernels::rows(1_000, 2_000, &square.values).iter().for_each(|row| MILLISECONDS.print_row(row));
+    kernels::rows(65_536, 256, &tall.values).iter().for_each(|row| MILLISECONDS.print_row(row));
 
-    timing::print_head("whole fit", &["the oracle's Rust", "fast Rust", "sklearn", "glmnet"]);
+    MICROSECONDS.print_head("working set", &["Rust's selection", "insertion"]);
+    sets::rows().for_each(|row| MICROSECONDS.print_row(&row));
+
+    MILLISECONDS.print_head("whole fit", &["the oracle's Rust", "fast Rust", "sklearn", "glmnet"]);
     family("dense 1,000 x 2,000", |share| dense(1_000, 2_000, 0.0, share), 5);
     let mcp = longer(square).with(|s| (s.penalty, s.second) = (Penalty::Mcp, 8.0));
     fits("dense 1,000 x 2,000, alpha 0.1, MCP", &mcp, 5, false);

@@ -9,9 +9,20 @@ pub fn time(run: impl FnOnce()) -> f64 {
     start.elapsed().as_secs_f64()
 }
 
-/// The best of each, the two taken in turn, so that what else the machine does falls on both.
+/// The best of each, taken in turn, so that what else the machine does falls on all.
+pub fn best_of<const N: usize>(turns: usize, mut runs: [&mut dyn FnMut(); N]) -> [f64; N] {
+    let mut best = [f64::INFINITY; N];
+    for _ in 0..turns {
+        for (best, run) in best.iter_mut().zip(&mut runs) {
+            *best = best.min(time(run));
+        }
+    }
+    best
+}
+
+/// Of two.
 pub fn best_of_pair(turns: usize, mut a: impl FnMut(), mut b: impl FnMut()) -> (f64, f64) {
-    (0..turns).fold((f64::INFINITY, f64::INFINITY), |(x, y), _| (x.min(time(&mut a)), y.min(time(&mut b))))
+    best_of(turns, [&mut a, &mut b]).into()
 }
 
 pub struct Row {
@@ -21,15 +32,26 @@ pub struct Row {
     pub others: Vec<Option<f64>>,
 }
 
-/// A Markdown table: our milliseconds, then our time over that of each other.
-pub fn print_head(title: &str, heads: &[&str]) {
-    println!("\n| {title} | ms | {} |", heads.join(" | "));
-    println!("|---|---|{}", "---|".repeat(heads.len()));
+/// What our times are printed in.
+pub struct Unit {
+    name: &'static str,
+    per_second: f64,
 }
 
-/// A row is printed as soon as it is known.
-pub fn print_row(row: &Row) {
-    let ratio = |other: &Option<f64>| other.map_or("-".into(), |other| format!("{:.2}", row.ours / other));
-    let ratios: Vec<String> = row.others.iter().map(ratio).collect();
-    println!("| {} | {:.2} | {} |", row.name, row.ours * 1e3, ratios.join(" | "));
+pub const MILLISECONDS: Unit = Unit { name: "ms", per_second: 1e3 };
+pub const MICROSECONDS: Unit = Unit { name: "µs", per_second: 1e6 };
+
+impl Unit {
+    /// A Markdown table: our time, then our time over that of each other.
+    pub fn print_head(&self, title: &str, heads: &[&str]) {
+        println!("\n| {title} | {} | {} |", self.name, heads.join(" | "));
+        println!("|---|---|{}", "---|".repeat(heads.len()));
+    }
+
+    /// A row is printed as soon as it is known.
+    pub fn print_row(&self, row: &Row) {
+        let ratio = |other: &Option<f64>| other.map_or("-".into(), |other| format!("{:.2}", row.ours / other));
+        let ratios: Vec<String> = row.others.iter().map(ratio).collect();
+        println!("| {} | {:.2} | {} |", row.name, row.ours * self.per_second, ratios.join(" | "));
+    }
 }
