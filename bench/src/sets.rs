@@ -6,7 +6,7 @@ use crate::set_cases::Order;
 use crate::timing::{best_of, Row};
 
 const FEATURES: usize = 8_192;
-const SIZES: [usize; 5] = [10, 40, 400, 4_096, 8_192];
+const SIZES: [usize; 6] = [10, 16, 40, 400, 4_096, 8_192];
 const ORDERS: [Order; 5] = [Order::Random, Order::Rising, Order::Falling, Order::Equal, Order::Turned];
 
 fn ours(violations: &[f64], weights: &[f64], size: usize, indices: &mut [u32]) {

@@ -15,5 +15,6 @@ one-size (WorkingSet.Refused r) (WorkingSet.Size n) e = cc
 one-size (WorkingSet.Size m) (WorkingSet.Refused s) e = cc
 one-size (WorkingSet.Size m) (WorkingSet.Size n) e = cc
 
-construct-ws-from-kkt-tight : (κs : _) (a : _) (r r' : WorkingSet) (s s' : _) → construct-ws-from-kkt-reads.Post κs a r s → construct-ws-from-kkt-reads.Post κs a r' s' → (r ≡ r') × (now (s .1 .1 .1 .0) ≡ now (s' .1 .1 .1 .0))
+construct-ws-from-kkt-tight : (κs : _) (a : _) (r r' : WorkingSet) (s s' : _) → construct-ws-from-kkt-reads.Post κs a r s
+    → construct-ws-from-kkt-reads.Post κs a r' s' → (r ≡ r') × (now (s .1 .1 .1 .0) ≡ now (s' .1 .1 .1 .0))
 construct-ws-from-kkt-tight κs a r r' s s' p q = (one-size r r' (coincide (p .0) (q .0)), coincide (p .1) (q .1))

@@ -18,7 +18,8 @@ use selection::rank;
 // ---- what the stand-alone call tests
 
 pub fn lengths_agree(kkt: &[f64], w: &[f64]) -> bool
-    ensures { λ r. ⌜ r ≡ num._and_ (leb 1 (length (now (w .entry)))) (num._and_ (leb (length (now (w .entry))) 8192) (eqb (length (now (kkt .entry))) (length (now (w .entry))))) ⌝ }
+    ensures { λ r. ⌜ r ≡ num._and_ (leb 1 (length (now (w .entry))))
+        (num._and_ (leb (length (now (w .entry))) 8192) (eqb (length (now (kkt .entry))) (length (now (w .entry))))) ⌝ }
 {
     let p = w.len();
     if p < 1 {
@@ -82,7 +83,8 @@ pub fn clear_indices(indices: &mut [u32])
 // Feature j goes to place c if its weight is not zero; the number of places filled then.
 fn append(w: f64, j: usize, c: usize, indices: &mut [u32]) -> usize
     requires { ⌜ (c < length (now indices)) × (j < 8192) ⌝ }
-    ensures { λ r. ⌜ (r ≡ num.pick (eq w num.#0) c (c + 1)) × (now (indices .exit) ≡ num.pick (eq w num.#0) (now (indices .entry)) (set (now (indices .entry)) c j)) ⌝ }
+    ensures { λ r. ⌜ (r ≡ num.pick (eq w num.#0) c (c + 1))
+        × (now (indices .exit) ≡ num.pick (eq w num.#0) (now (indices .entry)) (set (now (indices .entry)) c j)) ⌝ }
 {
     if w == 0.0 {
         return c;
@@ -94,7 +96,8 @@ fn append(w: f64, j: usize, c: usize, indices: &mut [u32]) -> usize
 // The features with nonzero weight, in index order; how many there are.
 fn support(w: &[f64], indices: &mut [u32]) -> usize
     requires { ⌜ (now indices ≡ tab (λ k. 0) (length (now w))) × (length (now w) ≤ 8192) ⌝ }
-    ensures { λ r. ⌜ (r ≡ length (def.support (now (w .entry)) (length (now (w .entry))))) × (now (indices .exit) ≡ def.padded (def.support (now (w .entry)) (length (now (w .entry)))) (length (now (w .entry)))) ⌝ }
+    ensures { λ r. ⌜ (r ≡ length (def.support (now (w .entry)) (length (now (w .entry)))))
+        × (now (indices .exit) ≡ def.padded (def.support (now (w .entry)) (length (now (w .entry)))) (length (now (w .entry)))) ⌝ }
 {
     let mut c = 0;
     let mut j = 0;
@@ -117,8 +120,10 @@ fn size(start: usize, nonzero: usize, p: usize) -> usize
 
 // The working set into p index places, then 0; its size.
 pub fn construct_ws(kkt: &[f64], w: &[f64], start: usize, indices: &mut [u32]) -> usize
-    requires { ⌜ (length (now kkt) ≡ length (now w)) × (length (now w) ≤ 8192) × (start ≤ length (now w)) × (length (now indices) ≡ length (now w)) × Numbers (now kkt) (now w) ⌝ }
-    ensures { λ r. ⌜ (r ≡ def.size start (now (w .entry))) × (now (indices .exit) ≡ def.padded (def.workingSet start (now (kkt .entry)) (now (w .entry))) (length (now (w .entry)))) ⌝ }
+    requires { ⌜ (length (now kkt) ≡ length (now w)) × (length (now w) ≤ 8192) × (start ≤ length (now w)) × (length (now indices) ≡ length (now w))
+        × Numbers (now kkt) (now w) ⌝ }
+    ensures { λ r. ⌜ (r ≡ def.size start (now (w .entry)))
+        × (now (indices .exit) ≡ def.padded (def.workingSet start (now (kkt .entry)) (now (w .entry))) (length (now (w .entry)))) ⌝ }
 {
     clear_indices(indices);
     let nonzero = support(w, indices);

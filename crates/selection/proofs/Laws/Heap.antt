@@ -191,7 +191,8 @@ module _ {ahead : ℕ → ℕ → Bool} {Good : ℕ → Type 0} {l₀ l : List �
     pub heaped-good : Good (getD l (k - 1) 0)
     heaped-good = let e = s .few in s .known .each (k - 1) (omega arith)
 
-    pub heaped-turn : (l' : List ℕ) → length l' ≡ length l → Heap ahead (k - 1) l' → Same l' (set l (k - 1) (getD l (k - 1) 0)) → HeapAt ahead Good l₀ l' (k - 1)
+    pub heaped-turn : (l' : List ℕ) → length l' ≡ length l → Heap ahead (k - 1) l' → Same l' (set l (k - 1) (getD l (k - 1) 0))
+        → HeapAt ahead Good l₀ l' (k - 1)
     heaped-turn l' e h t =
         let t' : Same l' l = rw (set-getD l (k - 1) 0) at t in
         let few = s .few in

@@ -146,9 +146,10 @@ module _ {v w : List Float} {from : ℕ} {l₀ l : List ℕ} {j : ℕ} (e : leng
     -- it does not stand ahead of the root, nor of any
     lost : Number v i → isZero w i ≡ true → ahead v i (getD l 0 0) ≡ false → Same l' l → RestAt v w from l₀ l' i
     lost n z p t =
+        let behind : Behind (ahead v) i (getD l 0 0) = record { is = p } in
         turned l' l (i ∷ s .over) len h t (s .known)
         (each-cons (λ x. Number v x × Each (Behind (ahead v) x) l) i (s .over)
-        (n, record { each = λ k g. features v .through i (getD l 0 0) (getD l k 0) n (s .known .each 0 inside) (s .known .each k g) (record { is = p }) (root .each k g) })
+        (n, record { each = λ k g. features v .through i (getD l 0 0) (getD l k 0) n (s .known .each 0 inside) (s .known .each k g) behind (root .each k g) })
         (s .behind))
         (λ a. let c = count-cons a i (s .over) in let m = rw z at (others-count v w a i) in omega arith)
 

@@ -46,7 +46,8 @@ loop-again c =
     let at-test = c .before .before .before .before .before in
     let from = at-test .loop-test .taken in
     let entry = at-test .before .before .before .before .before in
-    rest-turn (entry .pre .2) (entry .pre .5) (entry .pre .0) (at-test .before .loop .inv) (at-test .before .loop .j - 1) (omega arith) (at-test .loop-test .taken)
+    rest-turn (entry .pre .2) (entry .pre .5) (entry .pre .0) (at-test .before .loop .inv) (at-test .before .loop .j - 1) (omega arith)
+    (at-test .loop-test .taken)
     (offered .last .1 .1 .0) (offered .kept .1 .1 .0) (offered .ensures .0) (offered .ensures .1)
 
 same-length : tie.Need-same-length Inv-loop μ-loop

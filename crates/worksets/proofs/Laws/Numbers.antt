@@ -20,4 +20,8 @@ good false f t e h = absurd (true≢false (sym h))
 
 pub numbers-of : (v w : List Float) → firstOf (λ j. mark (badViolation v w j) j) (length w) ≡ Nowhere → Numbers v w
 unfolding badViolation
-numbers-of v w e = record { each = λ j h z. good (isZero w j) (finite (at v j)) (lt (at v j) #0) (unmarked (badViolation v w j) j (first-none (λ i. mark (badViolation v w i) i) (length w) e j h)) z }
+numbers-of v w e = record {
+  each = λ j h z.
+      let passed = unmarked (badViolation v w j) j (first-none (λ i. mark (badViolation v w i) i) (length w) e j h) in
+      good (isZero w j) (finite (at v j)) (lt (at v j) #0) passed z;
+}

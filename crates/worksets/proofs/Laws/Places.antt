@@ -33,10 +33,21 @@ filled start v w h a s l r ea es e q =
     let high = size-most start w h in
     let back : p - length (support w p) - (s - a) ≡ p - length (workingSet start v w) = rw (length-workingSet start w h v) (omega arith) in
     let parts : workingSet start v w ≡ support w p ++ take (s - a) (others v w p) = rw (ea, es) (workingSet-parts start w h v) in
-    rw (e, q, take-at (support w p) (tab {A = ℕ} (λ k. 0) (p - length (support w p))) a (sym ea), drop-at (support w p) (tab {A = ℕ} (λ k. 0) (p - length (support w p))) a (sym ea), same-drop {A = ℕ} 0 (s - a) (p - length (support w p)), back, ← append-assoc, ← parts)
+    let zeros : List ℕ = tab {A = ℕ} (λ k. 0) (p - length (support w p)) in
+    rw (
+      e,
+      q,
+      take-at (support w p) zeros a (sym ea),
+      drop-at (support w p) zeros a (sym ea),
+      same-drop {A = ℕ} 0 (s - a) (p - length (support w p)),
+      back,
+      ← append-assoc,
+      ← parts,
+    )
 
 -- the same by what the code has computed: a is the number of nonzero weights, s the size
-module _ (start : ℕ) (v w : List Float) (a s : ℕ) (h : start ≤ length w) (ea : a ≡ length (support w (length w))) (es : s ≡ greater start (smaller (2 * a) (length w))) where
+module _ (start : ℕ) (v w : List Float) (a s : ℕ) (h : start ≤ length w) (ea : a ≡ length (support w (length w)))
+    (es : s ≡ greater start (smaller (2 * a) (length w))) where
   pub sized : s ≡ size start w
   unfolding size
   sized = rw (← ea) es
@@ -52,7 +63,8 @@ module _ (start : ℕ) (v w : List Float) (a s : ℕ) (h : start ≤ length w) (
       let t = length-take-le (s - a) (drop a l) (omega arith) in
       omega arith
 
-  pub set-made : (l r : List ℕ) → length l ≡ length w → l ≡ padded (support w (length w)) (length w) → r ≡ take (length (take (s - a) (drop a l))) (others v w (length w))
+  pub set-made : (l r : List ℕ) → length l ≡ length w → l ≡ padded (support w (length w)) (length w)
+      → r ≡ take (length (take (s - a) (drop a l))) (others v w (length w))
       → take a l ++ (r ++ drop (s - a) (drop a l)) ≡ padded (workingSet start v w) (length w)
   set-made l r e is q =
       let d = length-drop a l in
