@@ -1,8 +1,10 @@
-// Settings, refusals and reports as plain numbers, for the calls from other languages, and the test of one column.
+// Settings, refusals, reports and the size of a working set as plain numbers, for the calls from other languages, and the test of one column.
 ghost use mathlib.Core.Path.{_≡_};
-ghost use Rattle.designs.specs.Checks.{verdictOf};
+ghost use Prim.Native.Nat.{ℕ};
+ghost use Rattle.designs.specs.Checks.{Fault, verdictOf, after, left};
 ghost use Rattle.designs.specs.Design as def;
 ghost use Rattle.runs.specs.Call as call;
+ghost use Rattle.worksets.specs.Call as sets;
 ghost use Rattle.codes.specs.Codes as codes;
 ghost use Rattle.codes.specs.Kernels as kernels;
 use designs::Layout;
@@ -14,6 +16,7 @@ use doubles::Refusal;
 use leaves::penalties::separable::Penalty;
 use runs::Fit;
 use runs::Settings;
+use worksets::WorkingSet;
 
 // The shape of a dense design, and below that of a CSC one.
 pub fn dense(n: usize, p: usize) -> Shape
@@ -125,6 +128,24 @@ pub fn tell_verdict(verdict: Verdict, place: &mut usize) -> u32
         Verdict::Refused(r) => {
             *place = r.place;
             r.number
+        }
+    }
+}
+
+// A working set's answer in the caller's numbers, whichever fault and size it stands for. A refusal does not write the size.
+pub fn tell_size(answer: WorkingSet, size: &mut usize, place: &mut usize) -> u32
+    ensures { λ r. ⌜ ((fault : Fault) (count : ℕ) → sets.sizeOf answer ≡ after fault count
+        → (r ≡ codes.numberOfFault fault) × (now (place .exit) ≡ codes.placeOfFault fault) × (now (size .exit) ≡ left fault count (now (size .entry)))) ⌝ }
+{
+    match answer {
+        WorkingSet::Refused(why) => {
+            *place = why.place;
+            why.number
+        }
+        WorkingSet::Size(count) => {
+            *size = count;
+            *place = 0;
+            0
         }
     }
 }

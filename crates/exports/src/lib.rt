@@ -1,9 +1,8 @@
 // Calls for programs in other languages: numbers, slices and references to numbers. A slice passes as a pointer and then a length. Each
 // answers document 01's refusal number, 0 where there is none; where a refusal has a place, it is left in `place`.
 ghost use mathlib.Core.Path.{_≡_};
-ghost use Prim.Native.Nat.{ℕ};
 ghost use lib.ListN.{length};
-ghost use Rattle.designs.specs.Checks.{Fault, after, left};
+ghost use Rattle.designs.specs.Checks.{left};
 ghost use Rattle.designs.specs.Design as def;
 ghost use Rattle.datafits.specs.Calls as calls;
 ghost use Rattle.runs.specs.Call as call;
@@ -18,13 +17,13 @@ use codes::csc;
 use codes::dense;
 use codes::settings_of;
 use codes::tell;
+use codes::tell_size;
 use codes::tell_verdict;
 use columns::column_dot;
 use columns::column_update;
 use designs::Feature;
 use designs::Verdict;
 use solvers::coordinate_descent;
-use worksets::WorkingSet;
 use worksets::construct_ws_from_kkt;
 
 // ---- whole calls
@@ -175,24 +174,6 @@ pub extern "C" fn koyramutey_full_grad_dense(
 }
 
 // ---- the working set
-
-// A working set's answer in the caller's numbers, whichever fault and size it stands for. A refusal does not write the size.
-fn tell_size(answer: WorkingSet, size: &mut usize, place: &mut usize) -> u32
-    ensures { λ r. ⌜ ((fault : Fault) (count : ℕ) → sets.sizeOf answer ≡ after fault count
-        → (r ≡ numberOfFault fault) × (now (place .exit) ≡ placeOfFault fault) × (now (size .exit) ≡ left fault count (now (size .entry)))) ⌝ }
-{
-    match answer {
-        WorkingSet::Refused(refusal) => {
-            *place = refusal.place;
-            refusal.number
-        }
-        WorkingSet::Size(count) => {
-            *size = count;
-            *place = 0;
-            0
-        }
-    }
-}
 
 // worksets::construct_ws_from_kkt. The size of the set is left in `size`.
 #[no_mangle]

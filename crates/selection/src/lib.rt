@@ -124,7 +124,7 @@ fn keep(w: f64, j: usize, c: usize, kept: &mut [u32]) -> usize
 
 // The first features with zero weight, as many as there is room for; how many features were looked at. Which they are does not depend on violations.
 fn keep_first(w: &[f64], kept: &mut [u32]) -> usize
-    requires { ⌜ (length (now w) ≤ 8192) × (length (now kept) ≤ length (def.others (now w) (now w) (length (now w)))) ⌝ }
+    requires { ⌜ (length (now w) ≤ 8192) × (length (now kept) + length (def.support (now w) (length (now w))) ≤ length (now w)) ⌝ }
     ensures { λ r. ⌜ (r ≤ length (now (w .entry))) × ((v : List Float) → order.Same (now (kept .exit)) (def.others v (now (w .entry)) r)) ⌝ }
 {
     let mut c = 0;

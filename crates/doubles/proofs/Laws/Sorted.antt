@@ -1,7 +1,7 @@
 -- Lists in order, for any strict order of numbers. The first of a list in order are determined: two lists in order with the same members are the
 -- same list. The idea: the head of each stands in the other, so neither is ahead. Assumes nothing.
 use mathlib.Core.Path.{_≡_, refl, sym, ap, _∙_}
-use mathlib.Core.Bool.{Bool, true, false, true≢false}
+use mathlib.Core.Bool.{Bool, true, false}
 use mathlib.Core.Logic.{_⊎_, inl, inr}
 use mathlib.Core.List.{List, [], _∷_, _++_, append-nil}
 use Prim.Native.Nat.{ℕ, zero, suc, _+_, _≤_, _<_}
@@ -10,17 +10,10 @@ use native.Mathlib.Omega.{arith}
 use lib.ListN.{length, getD, take, length-take}
 use lib.Seq.{take-all}
 use Rattle.doubles.specs.Inner.Order.{Behind, Strict, Each, OrderedFrom, is, count, Same}
-use Rattle.doubles.proofs.Laws.Counts.{is-self, each-none, each-cons, each-append, counted-each, same-back}
+use Rattle.doubles.proofs.Laws.Counts.{is-self, each-cons, each-append, counted-each, same-back}
 
-module _ {ahead : ℕ → ℕ → Bool} {Good : ℕ → Type 0} (o : Strict ahead Good) where
-  pub behind-self : (a : ℕ) → Behind ahead a a
-  behind-self a = record { is = go (ahead a a) refl }
-    where
-      go : (t : Bool) → ahead a a ≡ t → ahead a a ≡ false
-      go true e = o .one-way a a e .is
-      go false e = e
-
-  -- ---- a number at the head of a list in order
+-- ---- a number at the head of a list in order
+module _ {ahead : ℕ → ℕ → Bool} where
   pub ordered-cons : (a : ℕ) (l : List ℕ) → Each (λ x. Behind ahead x a) l → OrderedFrom ahead 0 l → OrderedFrom ahead 0 (a ∷ l)
   ordered-cons a l f r = record { each = go }
     where
@@ -35,6 +28,14 @@ module _ {ahead : ℕ → ℕ → Bool} {Good : ℕ → Type 0} (o : Strict ahea
 
   pub ordered-tail : (a : ℕ) (l : List ℕ) → OrderedFrom ahead 0 (a ∷ l) → OrderedFrom ahead 0 l
   ordered-tail a l r = record { each = λ i k h z g. r .each (suc i) (suc k) (omega arith) (omega arith) (omega arith) }
+
+module _ {ahead : ℕ → ℕ → Bool} {Good : ℕ → Type 0} (o : Strict ahead Good) where
+  pub behind-self : (a : ℕ) → Behind ahead a a
+  behind-self a = record { is = go (ahead a a) refl }
+    where
+      go : (t : Bool) → ahead a a ≡ t → ahead a a ≡ false
+      go true e = o .one-way a a e .is
+      go false e = e
 
   -- ---- what stands in order, and ahead of all others, is the first part of the whole in order
   heads : (a b : ℕ) → (a ≡ b) ⊎ Behind ahead a b → (b ≡ a) ⊎ Behind ahead b a → a ≡ b

@@ -65,10 +65,6 @@ unfolding others support steps
 share-out v w zero = refl
 share-out v w (suc n) = shared v w n (isZero w n) (support w n) (others v w n) (share-out v w n)
 
--- how many there are does not depend on the violations
-pub others-many : (v v' w : List Float) (n : ℕ) → length (others v w n) ≡ length (others v' w n)
-others-many v v' w n = let a = share-out v w n in let b = share-out v' w n in omega arith
-
 -- ---- what holds of each
 each-insert : (P : ℕ → Type 0) (v : List Float) (j : ℕ) (l : List ℕ) → P j → Each P l → Each P (insert v j l)
 each-insert P v j l p f =
@@ -92,12 +88,12 @@ others-known v w n e f h = others-each (Number v) v w n (λ j g z. record { insi
 ordered-insert : (v : List Float) (j : ℕ) (l : List ℕ) → Number v j → Each (λ x. (x < j) × Number v x) l → OrderedFrom (ahead v) 0 l
     → OrderedFrom (ahead v) 0 (insert v j l)
 unfolding insert
-ordered-insert v j [] n f o = ordered-cons (features v) j [] (each-none (λ x. Behind (ahead v) x j)) o
+ordered-insert v j [] n f o = ordered-cons j [] (each-none (λ x. Behind (ahead v) x j)) o
 ordered-insert v j (k ∷ l) n f o =
-    go (lt (at v k) (at v j)) refl (ordered-insert v j l n (record { each = λ i h. f .each (suc i) (omega arith) }) (ordered-tail (features v) k l o))
+    go (lt (at v k) (at v j)) refl (ordered-insert v j l n (record { each = λ i h. f .each (suc i) (omega arith) }) (ordered-tail k l o))
   where
     first : Each (λ x. Behind (ahead v) x k) l
-    first = ordered-head (features v) k l o
+    first = ordered-head k l o
 
     here : (k < j) × Number v k
     here = f .each 0 (zero-lt-suc (length l))
@@ -105,13 +101,13 @@ ordered-insert v j (k ∷ l) n f o =
     go : (t : Bool) → lt (at v k) (at v j) ≡ t → OrderedFrom (ahead v) 0 (insert v j l) → OrderedFrom (ahead v) 0 (pick t (j ∷ (k ∷ l)) (k ∷ insert v j l))
     go true e r =
         let b = behind-larger v k j e in
-        ordered-cons (features v) j (k ∷ l)
+        ordered-cons j (k ∷ l)
         (each-cons (λ x. Behind (ahead v) x j) k l b
         (record { each = λ i h. features v .through (getD l i 0) k j (f .each (suc i) (omega arith) .1) (here .1) n (first .each i h) b }))
         o
     go false e r =
         let b = here .0 in
-        ordered-cons (features v) k (insert v j l)
+        ordered-cons k (insert v j l)
         (each-insert (λ x. Behind (ahead v) x k) v j l (behind-later v j k e (omega arith)) first)
         r
 

@@ -1,10 +1,10 @@
 -- Choosing the others by a heap: what is left over always stands behind what is kept, so that at the end the heap holds the first of them all. The idea:
 -- features are counted, those kept, those left over and those still to come; and of what is left over each stands behind each that is kept, since the
 -- root does. Assumes nothing.
-use mathlib.Core.Path.{_≡_, refl, sym, ap, _∙_}
+use mathlib.Core.Path.{_≡_, refl, sym, _∙_}
 use mathlib.Core.Bool.{Bool, true, false}
 use mathlib.Core.List.{List, [], _∷_, _++_}
-use Prim.Native.Nat.{ℕ, suc, _+_, _-_, _≤_, _<_}
+use Prim.Native.Nat.{ℕ, _+_, _≤_, _<_}
 use native.Mathlib.Nat.{le-antisymm}
 use native.Mathlib.Numerals.{add-one}
 use native.Mathlib.Decide.{ℕ-discrete}
@@ -17,10 +17,10 @@ use Rattle.doubles.specs.Steps.{steps}
 use Rattle.doubles.specs.Inner.Order.{Behind, Each, OrderedFrom, is, count, Same}
 use Rattle.doubles.proofs.Laws.Counts.{count-set, count-append, count-cons, count-one, each-none, each-cons, each-front, same-each, same-self}
 use Rattle.doubles.proofs.Laws.Sorted.{first-of}
-use Rattle.runs.specs.WorkingSet.{isZero, others}
+use Rattle.runs.specs.WorkingSet.{isZero, support, others}
 use Rattle.selection.specs.Inner.Heap.{ahead, Number, Numbers, Heap, offered, Chosen}
 use Rattle.selection.proofs.Laws.Order.{features}
-use Rattle.selection.proofs.Laws.Others.{others-length, others-count, others-many, others-known, others-ordered, share-out}
+use Rattle.selection.proofs.Laws.Others.{others-length, others-count, others-known, others-ordered, share-out}
 use Rattle.selection.proofs.Laws.Heap.{set-each, root-last}
 
 -- ---- the room
@@ -28,27 +28,29 @@ use Rattle.selection.proofs.Laws.Heap.{set-each, root-last}
 pub room-few : (v w : List Float) (m n : ℕ) → m ≤ length (others v w (length w)) → length w ≤ n → m ≤ n
 room-few v w m n h g = let e = share-out v w (length w) in omega arith
 
-pub room-any : (v v' w : List Float) (m n : ℕ) → m ≤ length (others v w n) → m ≤ length (others v' w n)
-room-any v v' w m n h = let e = others-many v v' w n in omega arith
+-- nor than the support leaves
+pub room-left : (v w : List Float) (m : ℕ) → m ≤ length (others v w (length w)) → m + length (support w (length w)) ≤ length w
+room-left v w m h = let e = share-out v w (length w) in omega arith
 
 -- ---- the loop that keeps the first
 pub record FirstAt (w : List Float) (m : ℕ) (l : List ℕ) (c j : ℕ) : Type 0 where
   pub most : j ≤ length w
   pub few : c ≤ m
   pub long : length l ≡ m
-  many : c ≡ length (others w w j)
+  many : c + length (support w j) ≡ j
   same : (v : List Float) → Same (take c l) (others v w j)
 
 pub first-none : (w : List Float) (l : List ℕ) → FirstAt w (length l) l 0 0
-unfolding others steps
+unfolding others support steps
 first-none w l = record { most = omega arith; few = omega arith; long = refl; many = refl; same = λ v. same-self [] }
 
 module _ {w : List Float} {m : ℕ} {l : List ℕ} {c j : ℕ} (s : FirstAt w m l c j) where
-  pub first-inside : c < m → m ≤ length (others w w (length w)) → j < length w
+  -- there is one more
+  pub first-inside : c < m → m + length (support w (length w)) ≤ length w → j < length w
   first-inside b g = go (ℕ-discrete j (length w))
     where
       go : Dec (j ≡ length w) → j < length w
-      go (yes e) = let p = s .many ∙ ap (λ (i : ℕ). length (others w w i)) e in absurd (omega arith)
+      go (yes e) = let p = rw e at (s .many) in absurd (omega arith)
       go (no n) = let p = s .most in omega arith
 
   pub first-turn : c < m → j < length w → (c' : ℕ) (l' : List ℕ) → c' ≡ pick (isZero w j) (c + 1) c → l' ≡ pick (isZero w j) (set l c j) l
@@ -57,10 +59,15 @@ module _ {w : List Float} {m : ℕ} {l : List ℕ} {c j : ℕ} (s : FirstAt w m 
     most = omega arith;
     few = rw p (fewer (isZero w j));
     long = e ∙ s .long;
-    many = p ∙ ap (λ (n : ℕ). pick (isZero w j) (n + 1) n) (s .many) ∙ sym (others-length w w j);
+    many = rw p (more (isZero w j) (others-length w w j));
     same = λ v. record { each = λ a. rw (p, q) (kept v a (isZero w j) (s .same v .each a)) ∙ sym (others-count v w a j) };
   }
     where
+      more : (t : Bool) → length (others w w (j + 1)) ≡ pick t (length (others w w j) + 1) (length (others w w j))
+          → pick t (c + 1) c + length (support w (j + 1)) ≡ j + 1
+      more true z = let x = share-out w w j in let y = share-out w w (j + 1) in let n = s .many in omega arith
+      more false z = let x = share-out w w j in let y = share-out w w (j + 1) in let n = s .many in omega arith
+
       fewer : (t : Bool) → pick t (c + 1) c ≤ m
       fewer true = omega arith
       fewer false = s .few

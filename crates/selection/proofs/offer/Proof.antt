@@ -1,6 +1,5 @@
 -- `offer`: by the weight, and by whether j stands ahead of the root. Assumes nothing.
 use denote.Ref.{now}
-use mathlib.Core.Path.{sym, _∙_}
 use Rattle.doubles.specs.Num.{_and_}
 use Rattle.doubles.proofs.Laws.Counts.{same-self}
 use Rattle.selection.specs.Inner.Heap.{offered}

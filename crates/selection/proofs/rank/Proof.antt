@@ -3,7 +3,7 @@ use denote.Ref.{now}
 use mathlib.Core.Path.{_≡_, _∙_}
 use lib.ListN.{length}
 use Rattle.doubles.proofs.Laws.Counts.{same-trans}
-use Rattle.selection.proofs.Laws.Select.{room-any, room-few, first-known, chosen-known, chosen-first, chosen-none}
+use Rattle.selection.proofs.Laws.Select.{room-few, room-left, first-known, chosen-known, chosen-first, chosen-none}
 use borrow.Author.Needs.{needs}
 use native.Mathlib.Omega.{arith}
 use Rattle.selection.proofs.rank.Statement.{statement}
@@ -12,8 +12,7 @@ use Rattle.selection.proofs.rank.Tie as tie
 keep-first-requires : tie.Need-keep-first-requires
 keep-first-requires c κs =
     let entry = c .before .before .before .before .before in
-    let w = now (entry .args .w) in
-    (entry .pre .1, room-any (now (entry .args .kkt)) w w _ _ (entry .pre .2))
+    (entry .pre .1, room-left (now (entry .args .kkt)) (now (entry .args .w)) _ (entry .pre .2))
 
 heapify-requires : tie.Need-heapify-requires
 heapify-requires c κs =

@@ -3,10 +3,10 @@ use mathlib.Core.Path.{_≡_, refl}
 use Prim.Native.Nat.{ℕ}
 use Rattle.doubles.specs.Answer.{refused, answered}
 use Rattle.designs.specs.Checks.{Fault, none, fault, after, left}
 use Rattle.codes.specs.Codes.{numberOfFault, placeOfFault}
 use borrow.Author.Needs.{needs}
-use Rattle.exports.proofs.tell_size.Statement.{statement}
-use Rattle.exports.proofs.tell_size.Tie as tie
+use Rattle.codes.proofs.tell_size.Statement.{statement}
+use Rattle.codes.proofs.tell_size.Tie as tie
 
 refusal-told : (number place old : ℕ) (f : Fault) (size : ℕ) → refused number place ≡ after f size
     → (number ≡ numberOfFault f) × (place ≡ placeOfFault f) × (old ≡ left f size old)
