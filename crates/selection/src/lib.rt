@@ -14,7 +14,7 @@ ghost use Rattle.selection.specs.Inner.Heap as heap;
 
 // ---- a heap
 
-// Whether feature a stands ahead of feature b. Without a branch: which way it falls cannot be foreseen, and a wrong guess costs more than both tests.
+// Whether feature a stands ahead of feature b. Without a branch: which way it falls cannot be foreseen, and a wrong guess costs more than the tests.
 fn ahead(kkt: &[f64], a: u32, b: u32) -> bool
     requires { ⌜ (a < length (now kkt)) × (b < length (now kkt)) ⌝ }
     ensures { λ r. ⌜ r ≡ heap.ahead (now (kkt .entry)) a b ⌝ }

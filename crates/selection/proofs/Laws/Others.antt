@@ -81,8 +81,12 @@ others-each P v w (suc n) f = go (isZero w n) refl (others-each P v w n (λ j h.
     go true e g = each-insert P v n (others v w n) (f n (omega arith) e) g
     go false e g = g
 
+-- a feature with zero weight has a violation that can be compared
+pub number-of : {v w : List Float} → length v ≡ length w → Numbers v w → (j : ℕ) → j < length w → isZero w j ≡ true → Number v j
+number-of e f j h z = record { inside = omega arith; known = f .each j h z }
+
 pub others-known : (v w : List Float) (n : ℕ) → length v ≡ length w → Numbers v w → n ≤ length w → Each (Number v) (others v w n)
-others-known v w n e f h = others-each (Number v) v w n (λ j g z. record { inside = omega arith; known = f .each j (omega arith) z })
+others-known v w n e f h = others-each (Number v) v w n (λ j g z. number-of e f j (omega arith) z)
 
 -- ---- they stand in order
 ordered-insert : (v : List Float) (j : ℕ) (l : List ℕ) → Number v j → Each (λ x. (x < j) × Number v x) l → OrderedFrom (ahead v) 0 l
@@ -116,12 +120,9 @@ unfolding others steps
 others-ordered v w zero len f h = record { each = λ i k p z g. absurd (omega arith) }
 others-ordered v w (suc n) len f h = go (isZero w n) refl (others-ordered v w n len f (omega arith))
   where
-    number : (j : ℕ) → j < suc n → isZero w j ≡ true → Number v j
-    number j g z = record { inside = omega arith; known = f .each j (omega arith) z }
-
     go : (t : Bool) → isZero w n ≡ t → OrderedFrom (ahead v) 0 (others v w n) → OrderedFrom (ahead v) 0 (pick t (insert v n (others v w n)) (others v w n))
     go true e o =
-        ordered-insert v n (others v w n) (number n (omega arith) e)
-        (others-each (λ x. (x < n) × Number v x) v w n (λ j g z. (g, number j (omega arith) z)))
+        ordered-insert v n (others v w n) (number-of len f n h e)
+        (others-each (λ x. (x < n) × Number v x) v w n (λ j g z. (g, number-of len f j (omega arith) z)))
         o
     go false e o = o

@@ -20,7 +20,7 @@ use Rattle.doubles.proofs.Laws.Sorted.{first-of}
 use Rattle.runs.specs.WorkingSet.{isZero, support, others}
 use Rattle.selection.specs.Inner.Heap.{ahead, Number, Numbers, Heap, offered, Chosen}
 use Rattle.selection.proofs.Laws.Order.{features}
-use Rattle.selection.proofs.Laws.Others.{others-length, others-count, others-known, others-ordered, share-out}
+use Rattle.selection.proofs.Laws.Others.{others-length, others-count, number-of, others-known, others-ordered, share-out}
 use Rattle.selection.proofs.Laws.Heap.{set-each, root-last}
 
 -- ---- the room
@@ -113,7 +113,7 @@ rest-none {v} {w} {from} {l} e f h p s = record {
 
 pub rest-number : {v w : List Float} {from : ℕ} {l₀ l : List ℕ} {j : ℕ} → length v ≡ length w → Numbers v w → RestAt v w from l₀ l j
     → (i : ℕ) → i < j → isZero w i ≡ true → Number v i
-rest-number e f s i g z = let h = s .high in record { inside = omega arith; known = f .each i (omega arith) z }
+rest-number e f s i g z = let h = s .high in number-of e f i (omega arith) z
 
 module _ {v w : List Float} {from : ℕ} {l₀ l : List ℕ} {j : ℕ} (e : length v ≡ length w) (f : Numbers v w) (some : 0 < length l₀) (s : RestAt v w from l₀ l j)
     (i : ℕ) (ei : j ≡ i + 1) (b : from < j) where
