@@ -2,6 +2,8 @@
 -- pattern the model's double is nan, and so is 0 / 0. Assumes nothing.
 use mathlib.Core.Path.{_≡_, refl, sym, _∙_}
 use mathlib.Core.Bool.{true, false≢true}
+use Prim.Native.Nat.{_≤_, _%_}
+use native.Mathlib.Omega.{arith}
 use borrow.Author.Needs.{needs}
 use borrow.Author.Tests.{lt-ltb, le-ltb}
 use lib.Ieee.{Float, nan, inf, fin, binary64, ofBits, div, isNan}
@@ -16,7 +18,9 @@ is-nan (inf s) h = absurd (false≢true h)
 is-nan (fin s m e) h = absurd (false≢true h)
 
 float-from-bits-result : tie.Need-float-from-bits-result
-float-from-bits-result c = rw (nanBits-above binary64 _, le-ltb _ _ (c .if1 .left)) tt
+float-from-bits-result c =
+    let h : c .before .args .word % 0x8000_0000_0000_0000 ≤ 0x7ff0_0000_0000_0000 = omega (arith, c .if1 .left) in
+    rw (nanBits-above binary64 _, le-ltb _ _ h) tt
 
 returns : tie.Need-returns
 returns c = is-nan _ (sym (nanBits-is binary64 _) ∙ nanBits-above binary64 _ ∙ lt-ltb _ _ (c .if1 .taken))
