@@ -13,6 +13,7 @@ use Rattle.doubles.specs.Num.{pick}
 use Rattle.doubles.specs.Steps.{steps}
 use Rattle.io.specs.Digits.{digits, glyph, Fewest}
 use Rattle.listings.specs.Listing.{places, decimal, hex16}
+use Rattle.listings.specs.Wrote.{Room}
 
 -- one more for each of the first j powers that n reaches
 abbrev counted : ℕ → ℕ → ℕ
@@ -117,3 +118,10 @@ unfolding hex16
 hex-is n r text l h e =
     let k : r ≤ 16 = at-most 16 16 n r 16 (omega arith) h (omega arith) (omega arith) in
     e ∙ ap (λ (d : ℕ). digits 16 d n) (le-antisymm k (h .0))
+
+-- however many zeros stand in front, at most 16 digits hold a word: where 16 have room, so has what `io` wrote
+pub room-hex : {l : List ℕ} {a : ℕ} (m n r least : ℕ) (text : List ℕ) → n < 2 ^ 64 → least ≤ 16 → Fewest 16 least n r → text ≡ digits 16 r n
+    → Room l a (hex16 m) → Room l a text
+room-hex m n r least text k w h e room =
+    let few : r ≤ 16 = at-most 16 least n r 16 (omega arith) h w (omega arith) in
+    record { fits = rw (e, length-digits 16 r n) (omega (arith, length-hex16 m, room .fits)) }

@@ -9,14 +9,14 @@ slice-aggregate-put-text c = search needs
 
 put-text-requires : tie.Need-put-text-requires
 unfolding newline codes
-put-text-requires c κs = (c .before .before .before .pre)
+put-text-requires c κs = record { fits = c .before .before .before .pre .fits }
 
 same-length : tie.Need-same-length
 same-length c = search needs
 
 returns : tie.Need-returns
 unfolding newline codes
-returns c = (c .before .before .put-text .ensures)
+returns c = c .before .before .put-text .ensures
 
 pub end-line-spec : {M : Type 1} → statement M
 end-line-spec = tie.close (tie.spec slice-aggregate-put-text put-text-requires same-length returns)

@@ -1,8 +1,8 @@
--- `put_bits`: what `io` spelt, at the width of 16. Assumes nothing.
+-- `put_bits`: what `io` spelt, at the width of 16, are the 16 digits; it has room, however many digits there are. Assumes nothing.
 use mathlib.Core.Path.{ap, _∙_}
 use native.Mathlib.Omega.{arith}
 use Rattle.listings.specs.Listing.{hex16}
-use Rattle.listings.proofs.Laws.Digits.{hex-is}
+use Rattle.listings.proofs.Laws.Digits.{hex-is, room-hex}
 use borrow.Author.Needs.{needs}
 use Rattle.listings.proofs.inner.put_bits.Statement.{statement}
 use Rattle.listings.proofs.inner.put_bits.Tie as tie
@@ -20,13 +20,18 @@ slice-aggregate-put-text : tie.Need-slice-aggregate-put-text
 slice-aggregate-put-text c = search needs
 
 put-text-requires : tie.Need-put-text-requires
-put-text-requires c κs = rw (hex-is _ _ _ (omega arith) (c .before .before .hex .ensures .1 .0) (c .before .before .hex .ensures .1 .1) ∙ ap hex16 (c .before .before .before .before .bits-of .ensures)) (c .before .before .before .before .before .before .pre)
+put-text-requires c κs =
+    let spelt = c .before .before .hex .ensures in
+    room-hex _ _ _ _ _ (omega arith) (omega arith) (spelt .1 .0) (spelt .1 .1) (c .before .before .before .before .before .before .pre)
 
 same-length : tie.Need-same-length
 same-length c = search needs
 
 returns : tie.Need-returns
-returns c = rw (hex-is _ _ _ (omega arith) (c .before .before .before .before .before .hex .ensures .1 .0) (c .before .before .before .before .before .hex .ensures .1 .1) ∙ ap hex16 (c .before .before .before .before .before .before .before .bits-of .ensures)) at (c .before .before .put-text .ensures)
+returns c =
+    let behind = c .before .before .before .before .before in
+    let spelt = behind .hex .ensures in
+    rw (hex-is _ _ _ (omega arith) (spelt .1 .0) (spelt .1 .1) ∙ ap hex16 (behind .before .before .bits-of .ensures)) at (c .before .before .put-text .ensures)
 
 pub put-bits-spec : {M : Type 1} → statement M
 put-bits-spec =
