@@ -4,7 +4,7 @@ ghost use Rattle.doubles.specs.Answer.{numberOf};
 ghost use Rattle.datafits.specs.Calls as calls;
 use designs::Shape;
 use designs::Verdict;
-use designs::checks::admit;
+use designs::inner::admit;
 use doubles::Number;
 
 // Whether a buffer has 2p places. (2p itself may be more than a usize holds.)

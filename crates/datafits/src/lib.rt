@@ -9,8 +9,8 @@ use designs::Feature;
 use designs::Layout;
 use designs::Shape;
 use designs::Verdict;
-use designs::checks::admit;
-use designs::checks::both;
+use designs::inner::admit;
+use designs::inner::both;
 use doubles::Number;
 use doubles::Refusal;
 
@@ -105,7 +105,7 @@ pub fn value(y: &[f64], fit: &[f64]) -> Number
     if fit.len() < n {
         return refused(3);
     }
-    match designs::checks::check_numbers(n, &y[..0], y) {
+    match designs::inner::check_numbers(n, &y[..0], y) {
         Verdict::Refused(r) => Number::Refused(r),
         Verdict::Fine => Number::Is(quadratic::value(y, fit)),
     }

@@ -4,7 +4,7 @@ ghost use mathlib.Core.Path.{_≡_};
 ghost use Rattle.designs.specs.Checks as checks';
 use doubles::Refusal;
 
-pub mod checks;
+pub mod inner;
 
 // How a design lies in memory.
 pub enum Layout {
@@ -42,5 +42,5 @@ pub fn check(shape: Shape, starts: &[u32], rows: &[u32], values: &[f64], y: &[f6
     ensures { λ r. ⌜ checks'.verdictOf r ≡ checks'.checkCall shape (now (starts .entry)) (now (rows .entry)) (now (values .entry)) (now (y .entry)) ⌝ }
 {
     let fits = y.len() == shape.n;
-    checks::admit(shape, starts, rows, values, y, fits, true)
+    inner::admit(shape, starts, rows, values, y, fits, true)
 }

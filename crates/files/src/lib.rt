@@ -7,18 +7,18 @@ ghost use Rattle.doubles.specs.Answer.{refused as refused'};
 ghost use Rattle.files.specs.Problem as def;
 ghost use Rattle.files.specs.Call as call;
 ghost use Rattle.files.specs.Places as here;
-use crate::bytes::f64_at;
-use crate::bytes::put_doubles;
-use crate::bytes::put_indices;
-use crate::bytes::u16_at;
-use crate::bytes::u32_at;
+use crate::inner::f64_at;
+use crate::inner::put_doubles;
+use crate::inner::put_indices;
+use crate::inner::u16_at;
+use crate::inner::u32_at;
 use designs::Layout;
 use designs::Shape;
 use doubles::Refusal;
 use leaves::penalties::separable::Penalty;
 use runs::Settings;
 
-pub mod bytes;
+pub mod inner;
 
 // What was read: up to place `at`, the last field with tag `tag`; and how many elements each array has.
 pub struct Cursor {

@@ -12,7 +12,7 @@ use designs::Feature;
 use designs::Layout;
 use designs::Shape;
 use designs::Verdict;
-use designs::checks::admit;
+use designs::inner::admit;
 use doubles::Number;
 use runs::Fit;
 use runs::Settings;
