@@ -1,4 +1,4 @@
-//! Kernels through the exports, each against safe Rust of the same steps.
+//! Kernels through the libraries `exports` and `kernels`, each against safe Rust of the same steps.
 
 use crate::timing::{best_of_pair, Row};
 use std::hint::black_box;
@@ -9,10 +9,14 @@ extern "C" {
         n: usize, p: usize, values: *const f64, values_len: usize, prepared: *const f64, prepared_len: usize,
         fit: *const f64, fit_len: usize, grad: *mut f64, grad_len: usize, place: *mut usize,
     ) -> u32;
-    fn koyramutey_column_product_dense(
+}
+
+#[link(name = "kernels", kind = "static")]
+extern "C" {
+    fn kernel_column_product_dense(
         n: usize, p: usize, values: *const f64, values_len: usize, column: usize, v: *const f64, v_len: usize, product: *mut f64, place: *mut usize,
     ) -> u32;
-    fn koyramutey_column_update_dense(
+    fn kernel_column_update_dense(
         n: usize, p: usize, values: *const f64, values_len: usize, column: usize, difference: f64, fit: *mut f64, fit_len: usize, place: *mut usize,
     ) -> u32;
 }
@@ -44,7 +48,7 @@ fn full_grad_in_rust(n: usize, p: usize, x: &[f64], prepared: &[f64], fit: &[f64
 
 fn product(n: usize, p: usize, x: &[f64], j: usize, v: &[f64]) -> f64 {
     let (mut product, mut place) = (0.0, 0);
-    let number = unsafe { koyramutey_column_product_dense(n, p, x.as_ptr(), x.len(), j, v.as_ptr(), v.len(), &mut product, &mut place) };
+    let number = unsafe { kernel_column_product_dense(n, p, x.as_ptr(), x.len(), j, v.as_ptr(), v.len(), &mut product, &mut place) };
     assert_eq!(number, 0);
     product
 }
@@ -59,7 +63,7 @@ fn product_in_rust(n: usize, p: usize, x: &[f64], j: usize, v: &[f64]) -> f64 {
 
 fn update(n: usize, p: usize, x: &[f64], j: usize, d: f64, fit: &mut [f64]) {
     let mut place = 0;
-    let number = unsafe { koyramutey_column_update_dense(n, p, x.as_ptr(), x.len(), j, d, fit.as_mut_ptr(), fit.len(), &mut place) };
+    let number = unsafe { kernel_column_update_dense(n, p, x.as_ptr(), x.len(), j, d, fit.as_mut_ptr(), fit.len(), &mut place) };
     assert_eq!(number, 0);
 }
 

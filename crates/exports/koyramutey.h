@@ -1,8 +1,20 @@
-/* Koyramutey for C and for whatever calls C. Link libexports.a, which `rt staticlib exports` writes.
+/* Koyramutey for C and for whatever calls C.
 
-   A slice is a pointer and then its length; a null pointer with length 0 is an empty slice. Slices do not overlap, and each pointer to a
-   number points to one. Each call answers document 01's refusal number, 0 where there is none; a refusal other than 7 changes no buffer.
-   The refusal's place is left in `place`, 0 where there is no refusal. */
+   To build: tools/library proves and compiles the library for this machine, x86-64 or Arm, and its last line is the folder of libexports.a.
+
+       cc prog.c -I crates/exports -L "$(tools/library | tail -n 1)" -lexports
+
+   (For x86-64 alone, `rt staticlib exports` writes target/staticlib/libexports.a.) example.c, beside this file, is such a program.
+
+   Arguments. A slice is a pointer and then its length in elements; a null pointer with length 0 is an empty slice. Slices do not overlap, and each
+   pointer to a number points to one of its own. Numbers are taken whole: 2^32 + 5 iterations are refused, not 5 run. A lent buffer may be longer
+   than its room; what lies beyond the room is unchanged.
+
+   Answers. Each call answers the refusal's number, 0 where there is none, and leaves its place in *place, 0 where there is none. Refusals are tested
+   in the order of their list, and of several faults of one kind the place is the first. A refusal leaves every other number that a pointer points to
+   as it was; none but 7 changes a buffer.
+
+   Limits of every design: n samples, 1 to 65,536; p features, 1 to 8,192; stored values, 16,777,216 at most. */
 #ifndef KOYRAMUTEY_H
 #define KOYRAMUTEY_H
 
@@ -15,11 +27,36 @@ extern "C" {
 
 /* The whole fit of a dense design, n·p values row by row, to n targets y.
 
-   penalty: 0 L1, 1 L1PlusL2 (second is its ratio), 2 MCP (second is its gamma); any other is refused with 2.
-   extrapolate: 0 off, any other on, with depth 1 to 10.
-   Room: p weights, n fit entries, p indices, and scratch 3·p, or (2·depth + 5)·p + n with extrapolation.
-   The report, which a refusal leaves as it was: status (1 met, 2 spent), violation, and how many working sets were built, passes begun and
-   extrapolations accepted. */
+   Settings:
+     penalty      0 L1, 1 L1PlusL2, 2 MCP
+     alpha        finite and at least 0 (-0.0 passes, here and below)
+     second       L1: not looked at; L1PlusL2: its ratio, 0 to 1; MCP: its gamma, finite and above 0
+     tolerance    finite and at least 0
+     start        1 to 8,192: the least size of a working set; above p it counts as p
+     iterations   0 to 1,000: working sets at most
+     epochs       0 to 100,000: passes over one working set at most
+     extrapolate  0 off, any other on
+     depth        with extrapolation 1 to 10; without, not looked at
+
+   Lent buffers, and their room:
+     w            p: only written, with the weights; what they held does not matter
+     fit          n: only written, with the fit of the weights; what it held does not matter
+     indices      p: used, and 0 at the end
+     scratch      3·p, or (2·depth + 5)·p + n with extrapolation: used, and +0 at the end
+
+   Report:
+     *status      1 met: the violation is at most the tolerance; 2 spent
+     *violation   the largest violation at the weights returned
+     *sets, *passes, *accepted   working sets built, passes begun, extrapolations accepted
+
+   Refusals:
+     1 at 0       n, p or values_len outside its limits, values_len not n·p, y_len not n
+     2 at 0       a setting outside its range, an unknown penalty too
+     3 at 0       a lent buffer shorter than its room
+     6 at i       target i is NaN or infinite
+     6 at n + k   no target is, but value k
+     7 at 0       in the run, a Lipschitz constant, the inverse of a nonzero one, an entry of X'y, a gradient, a violation, a new weight or a changed fit
+                  entry is NaN or infinite: the room of w, fit and scratch is left +0, and that of indices 0 */
 uint32_t koyramutey_fit_dense(
     size_t n, size_t p,
     const double *values, size_t values_len,
@@ -33,7 +70,15 @@ uint32_t koyramutey_fit_dense(
     uint32_t *status, double *violation, size_t *sets, size_t *passes, size_t *accepted,
     size_t *place);
 
-/* The same of a CSC design: p + 1 column starts, and for each stored value its row. */
+/* The same of a CSC design: column j has the stored values from starts[j] to before starts[j + 1], and rows[k] is the sample of value k, from 0 on.
+   Settings, buffers and report are those above.
+
+   Refusals:
+     1 at 0       n, p or values_len outside its limits, starts_len not p + 1, rows_len not values_len, y_len not n
+     2, 3 at 0    as above
+     4 at i       starts[i] is the first and not 0, is below the start before it, is above values_len, or is the last and not values_len
+     5 at k       rows[k] is at or above n, or not above the row before it in its column
+     6, 7         as above */
 uint32_t koyramutey_fit_csc(
     size_t n, size_t p,
     const uint32_t *starts, size_t starts_len,
@@ -49,8 +94,16 @@ uint32_t koyramutey_fit_csc(
     uint32_t *status, double *violation, size_t *sets, size_t *passes, size_t *accepted,
     size_t *place);
 
-/* The gradients of all features of a dense design at a fit, into the first p places of grad. prepared: p Lipschitz constants, then the p
-   entries of X'y. */
+/* The gradients of all features of a dense design at a fit: the product of the column and the fit, less the feature's entry of X'y, divided by n.
+
+   prepared       2·p: p Lipschitz constants, which are not looked at, then the p entries of X'y; any doubles
+   fit            n: any doubles
+   grad           p: only written; what it held does not matter
+
+   Refusals:
+     1 at 0       n, p or values_len outside its limits, values_len not n·p
+     3 at 0       prepared, fit or grad shorter than its room
+     6 at n + k   value k is NaN or infinite */
 uint32_t koyramutey_full_grad_dense(
     size_t n, size_t p,
     const double *values, size_t values_len,
@@ -59,36 +112,22 @@ uint32_t koyramutey_full_grad_dense(
     double *grad, size_t grad_len,
     size_t *place);
 
-/* The working set of p = w_len weights and their violations, from a start size: all features with nonzero weight in index order, then the
-   others by falling violation, equal ones by lower index, cut at max(start, min(2·nonzero, p)), where nonzero counts the nonzero weights.
-   The first p places of indices get the set, then 0; *size is its size.
+/* The working set of p = w_len weights and their violations: all features with nonzero weight (a NaN too) in index order, then the others by falling
+   violation, equal ones by lower index, cut at *size = max(start, min(2·nonzero, p)), where nonzero counts the nonzero weights.
 
-   Limits: p from 1 to 8,192 and violations_len = w_len, else 1; start from 1 to p, else 2; room for p indices, else 3; 8, with the first
-   such feature as the place, where a weight is zero and its violation is NaN, infinite or negative. A refusal changes no place of indices
-   and leaves *size as it was. */
+   indices        p: only written, with the set, then 0; what they held does not matter
+
+   Refusals:
+     1 at 0       p outside its limits, violations_len not w_len
+     2 at 0       start outside 1 to p
+     3 at 0       indices shorter than p
+     8 at j       weight j is zero and its violation NaN, infinite or negative (-0.0 is not); violations of nonzero weights are not looked at */
 uint32_t koyramutey_working_set(
     const double *violations, size_t violations_len,
     const double *w, size_t w_len,
     size_t start,
     uint32_t *indices, size_t indices_len,
     size_t *size,
-    size_t *place);
-
-/* The product of a column of a dense design and the first n places of v. Sizes alone are tested (1 and 3), no number. */
-uint32_t koyramutey_column_product_dense(
-    size_t n, size_t p,
-    const double *values, size_t values_len,
-    size_t column,
-    const double *v, size_t v_len,
-    double *product,
-    size_t *place);
-
-/* The first n places of fit gain difference times a column of a dense design. Sizes alone are tested (1 and 3), no number. */
-uint32_t koyramutey_column_update_dense(
-    size_t n, size_t p,
-    const double *values, size_t values_len,
-    size_t column, double difference,
-    double *fit, size_t fit_len,
     size_t *place);
 
 #ifdef __cplusplus

@@ -1,3 +1,2 @@
 -- Laws on the definitions of specs/.
 pub mod Codes
-pub mod Kernels

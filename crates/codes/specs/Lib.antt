@@ -1,3 +1,2 @@
 -- What a reader believes of the calls from other languages.
 pub mod Codes
-pub mod Kernels

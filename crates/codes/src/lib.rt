@@ -1,4 +1,4 @@
-// Settings, refusals, reports and the size of a working set as plain numbers, for the calls from other languages, and the test of one column.
+// Settings, refusals, reports and the size of a working set as plain numbers, for the calls from other languages.
 ghost use mathlib.Core.Path.{_≡_};
 ghost use Prim.Native.Nat.{ℕ};
 ghost use Rattle.designs.specs.Checks.{Fault, verdictOf, after, left};
@@ -6,13 +6,9 @@ ghost use Rattle.designs.specs.Design as def;
 ghost use Rattle.runs.specs.Call as call;
 ghost use Rattle.worksets.specs.Call as sets;
 ghost use Rattle.codes.specs.Codes as codes;
-ghost use Rattle.codes.specs.Kernels as kernels;
 use designs::Layout;
 use designs::Shape;
 use designs::Verdict;
-use designs::checks::both;
-use designs::checks::sizes_agree;
-use doubles::Refusal;
 use leaves::penalties::separable::Penalty;
 use runs::Fit;
 use runs::Settings;
@@ -148,24 +144,4 @@ pub fn tell_size(answer: WorkingSet, size: &mut usize, place: &mut usize) -> u32
             0
         }
     }
-}
-
-// 1 and 3, where the list that the column meets has so many places.
-pub fn admit_column(n: usize, p: usize, values: &[f64], column: usize, places: usize) -> Verdict
-    ensures { λ r. ⌜ verdictOf r ≡ kernels.kernelFault n p (now (values .entry)) column places ⌝ }
-{
-    let none = [0u32; 0];
-    if both(sizes_agree(dense(n, p), &none, &none, values), column < p) {
-        if n <= places {
-            return Verdict::Fine;
-        }
-        return Verdict::Refused(Refusal {
-            number: 3,
-            place: 0,
-        });
-    }
-    Verdict::Refused(Refusal {
-        number: 1,
-        place: 0,
-    })
 }

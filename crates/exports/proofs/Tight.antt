@@ -14,8 +14,6 @@ use Rattle.exports.proofs.koyramutey_fit_dense.Reads as fit-dense-reads
 use Rattle.exports.proofs.koyramutey_fit_csc.Reads as fit-csc-reads
 use Rattle.exports.proofs.koyramutey_full_grad_dense.Reads as full-grad-reads
 use Rattle.exports.proofs.koyramutey_working_set.Reads as working-set-reads
-use Rattle.exports.proofs.koyramutey_column_product_dense.Reads as column-product-reads
-use Rattle.exports.proofs.koyramutey_column_update_dense.Reads as column-update-reads
 
 -- what one report, or one set of lent buffers, holds
 same-report : {a a' : ℕ} {v v' : Float} {b b' c c' d d' : ℕ} → report a v b c d ≡ report a' v' b' c' d' → (a ≡ a') × (v ≡ v') × (b ≡ b') × (c ≡ c') × (d ≡ d')
@@ -67,11 +65,3 @@ working-set-tight : (κs : _) (a : _) (r r' : _) (s s' : _) → working-set-read
     let t' = s' .1 .1 .1 in
     (r ≡ r') × (now (t .1 .1 .0) ≡ now (t' .1 .1 .0)) × (now (t .1 .0) ≡ now (t' .1 .0)) × (now (t .0) ≡ now (t' .0))
 working-set-tight κs a r r' s s' p q = (coincide (p .0) (q .0), coincide (p .1) (q .1), coincide (p .2) (q .2), coincide (p .3) (q .3))
-
-column-product-dense-tight : (κs : _) (a : _) (r r' : _) (s s' : _) → column-product-reads.Post κs a r s → column-product-reads.Post κs a r' s'
-    → (r ≡ r') × (now (s .1 .1 .1 .1 .1 .1 .0) ≡ now (s' .1 .1 .1 .1 .1 .1 .0)) × (now (s .1 .1 .1 .1 .1 .0) ≡ now (s' .1 .1 .1 .1 .1 .0))
-column-product-dense-tight κs a r r' s s' p q = (coincide (p .0) (q .0), coincide (p .1) (q .1), coincide (p .2) (q .2))
-
-column-update-dense-tight : (κs : _) (a : _) (r r' : _) (s s' : _) → column-update-reads.Post κs a r s → column-update-reads.Post κs a r' s'
-    → (r ≡ r') × (now (s .1 .1 .1 .1 .1 .1 .0) ≡ now (s' .1 .1 .1 .1 .1 .1 .0)) × (now (s .1 .1 .1 .1 .1 .0) ≡ now (s' .1 .1 .1 .1 .1 .0))
-column-update-dense-tight κs a r r' s s' p q = (coincide (p .0) (q .0), coincide (p .1) (q .1), coincide (p .2) (q .2))

@@ -1,7 +1,6 @@
 // Calls for programs in other languages: numbers, slices and references to numbers. A slice passes as a pointer and then a length. Each
 // answers document 01's refusal number, 0 where there is none; where a refusal has a place, it is left in `place`.
 ghost use mathlib.Core.Path.{_≡_};
-ghost use lib.ListN.{length};
 ghost use Rattle.designs.specs.Checks.{left};
 ghost use Rattle.designs.specs.Design as def;
 ghost use Rattle.datafits.specs.Calls as calls;
@@ -11,18 +10,12 @@ ghost use Rattle.worksets.specs.Call as sets;
 ghost use Rattle.solvers.specs.Buffers.{lent};
 ghost use Rattle.codes.specs.Codes as codes;
 ghost use Rattle.codes.specs.Codes.{numberOfFault, placeOfFault};
-ghost use Rattle.codes.specs.Kernels as kernels;
-use codes::admit_column;
 use codes::csc;
 use codes::dense;
 use codes::settings_of;
 use codes::tell;
 use codes::tell_size;
 use codes::tell_verdict;
-use columns::column_dot;
-use columns::column_update;
-use designs::Feature;
-use designs::Verdict;
 use solvers::coordinate_descent;
 use worksets::construct_ws_from_kkt;
 
@@ -193,62 +186,4 @@ pub extern "C" fn koyramutey_working_set(
 {
     let answer = construct_ws_from_kkt(violations, w, start, indices);
     tell_size(answer, size, place)
-}
-
-// ---- one column: for callers that have checked their design. Only sizes are tested, so a call costs no more than its column.
-
-// The product of a column and v.
-#[no_mangle]
-pub extern "C" fn koyramutey_column_product_dense(
-    n: usize,
-    p: usize,
-    values: &[f64],
-    column: usize,
-    v: &[f64],
-    product: &mut f64,
-    place: &mut usize,
-) -> u32
-    ensures { λ r. ⌜ (r ≡ numberOfFault (kernels.kernelFault n p (now (values .entry)) column (length (now (v .entry)))))
-        × (now (place .exit) ≡ placeOfFault (kernels.kernelFault n p (now (values .entry)) column (length (now (v .entry)))))
-        × (now (product .exit) ≡ kernels.productLeft n p (now (values .entry)) column (now (v .entry)) (now (product .entry))) ⌝ }
-{
-    let none = [0u32; 0];
-    let verdict = admit_column(n, p, values, column, v.len());
-    let number = tell_verdict(verdict, place);
-    if let Verdict::Fine = verdict {
-        *product = column_dot(dense(n, p), &none, &none, values, Feature(column), v);
-    }
-    number
-}
-
-// The fit gains `difference` times a column.
-#[no_mangle]
-pub extern "C" fn koyramutey_column_update_dense(
-    n: usize,
-    p: usize,
-    values: &[f64],
-    column: usize,
-    difference: f64,
-    fit: &mut [f64],
-    place: &mut usize,
-) -> u32
-    ensures { λ r. ⌜ (r ≡ numberOfFault (kernels.kernelFault n p (now (values .entry)) column (length (now (fit .entry)))))
-        × (now (place .exit) ≡ placeOfFault (kernels.kernelFault n p (now (values .entry)) column (length (now (fit .entry)))))
-        × (now (fit .exit) ≡ kernels.updateLeft n p (now (values .entry)) column difference (now (fit .entry))) ⌝ }
-{
-    let none = [0u32; 0];
-    let verdict = admit_column(n, p, values, column, fit.len());
-    let number = tell_verdict(verdict, place);
-    if let Verdict::Fine = verdict {
-        column_update(
-            dense(n, p),
-            &none,
-            &none,
-            values,
-            Feature(column),
-            difference,
-            fit,
-        );
-    }
-    number
 }

@@ -15,7 +15,7 @@ use Rattle.designs.specs.Design.{design, denseShape, nothing, laid, dot, moved}
 use Rattle.designs.specs.Sound.{Held, Whole}
 use Rattle.designs.specs.declared.Shape.{Shape}
 use Rattle.designs.proofs.Laws.Passed.{sized, spared, dense-values}
-use Rattle.codes.specs.Kernels.{kernelFault, productLeft, updateLeft}
+use Rattle.kernels.specs.Kernels.{kernelFault, productLeft, updateLeft}
 
 module _ (n p : ℕ) (values : List Float) (column : ℕ) (s : Shape) (hs : s ≡ denseShape n p) where
   -- the code's tests t, of which z is that of the sizes

@@ -1,8 +1,8 @@
 -- `admit_column`: the tests in their turn. Assumes nothing.
-use Rattle.codes.proofs.Laws.Kernels.{fine, short, wrong}
+use Rattle.kernels.proofs.Laws.Kernels.{fine, short, wrong}
 use borrow.Author.Needs.{needs}
-use Rattle.codes.proofs.admit_column.Statement.{statement}
-use Rattle.codes.proofs.admit_column.Tie as tie
+use Rattle.kernels.proofs.admit_column.Statement.{statement}
+use Rattle.kernels.proofs.admit_column.Tie as tie
 
 dense-requires : tie.Need-dense-requires
 dense-requires c κs = search needs
@@ -20,13 +20,22 @@ both-requires : tie.Need-both-requires
 both-requires c κs = search needs
 
 returns : tie.Need-returns
-returns c = fine _ _ _ _ _ (c .before .before .before .before .before .before .dense .ensures) _ _ _ (c .before .before .both .ensures) (c .before .before .before .sizes-agree .ensures) (c .before .if1 .taken) (c .if2 .taken)
+returns c =
+    let both = c .before .before in
+    let sizes = both .before .sizes-agree .ensures in
+    fine _ _ _ _ _ (both .before .before .before .before .dense .ensures) _ _ _ (both .both .ensures) sizes (c .before .if1 .taken) (c .if2 .taken)
 
 returns-2 : tie.Need-returns-2
-returns-2 c = short _ _ _ _ _ (c .before .before .before .before .before .before .dense .ensures) _ _ _ (c .before .before .both .ensures) (c .before .before .before .sizes-agree .ensures) (c .before .if1 .taken) (c .if2 .left)
+returns-2 c =
+    let both = c .before .before in
+    let sizes = both .before .sizes-agree .ensures in
+    short _ _ _ _ _ (both .before .before .before .before .dense .ensures) _ _ _ (both .both .ensures) sizes (c .before .if1 .taken) (c .if2 .left)
 
 returns-3 : tie.Need-returns-3
-returns-3 c = wrong _ _ _ _ _ (c .before .before .before .before .before .dense .ensures) _ _ _ (c .before .both .ensures) (c .before .before .sizes-agree .ensures) (c .if1 .left)
+returns-3 c =
+    let both = c .before in
+    let sizes = both .before .sizes-agree .ensures in
+    wrong _ _ _ _ _ (both .before .before .before .before .dense .ensures) _ _ _ (both .both .ensures) sizes (c .if1 .left)
 
 pub admit-column-spec : {M : Type 1} → statement M
 admit-column-spec =

@@ -1,11 +1,11 @@
--- `koyramutey_column_update_dense`: the tests, then the column. Assumes nothing.
+-- `kernel_column_update_dense`: the tests, then the column. Assumes nothing.
 use mathlib.Core.Path.{refl}
 use Rattle.designs.proofs.Laws.Passed.{stop-left, pass}
-use Rattle.codes.specs.Kernels.{updateLeft}
-use Rattle.codes.proofs.Laws.Kernels.{ready, update-told}
+use Rattle.kernels.specs.Kernels.{updateLeft}
+use Rattle.kernels.proofs.Laws.Kernels.{ready, update-told}
 use borrow.Author.Needs.{needs}
-use Rattle.exports.proofs.koyramutey_column_update_dense.Statement.{statement}
-use Rattle.exports.proofs.koyramutey_column_update_dense.Tie as tie
+use Rattle.kernels.proofs.kernel_column_update_dense.Statement.{statement}
+use Rattle.kernels.proofs.kernel_column_update_dense.Tie as tie
 
 admit-column-requires : tie.Need-admit-column-requires
 admit-column-requires c κs = search needs
@@ -26,7 +26,11 @@ slice-aggregate-column-update-2 : tie.Need-slice-aggregate-column-update-2
 slice-aggregate-column-update-2 c = search needs
 
 column-update-requires : tie.Need-column-update-requires
-column-update-requires c κs = ready _ _ _ _ _ (c .before .before .before .dense .ensures) _ (pass _ (c .before .before .before .before .before .before .before .before .admit-column .ensures) (c .before .before .before .before .enum-told .given .1))
+column-update-requires c κs =
+    let shaped = c .before .before .before in
+    let chosen = shaped .before in
+    let tested = chosen .before .before .before .before .admit-column .ensures in
+    ready _ _ _ _ _ (shaped .dense .ensures) _ (pass _ tested (chosen .enum-told .given .1))
 
 enum-told-2 : tie.Need-enum-told-2
 enum-told-2 c = search needs
@@ -35,14 +39,31 @@ same-length : tie.Need-same-length
 same-length c = search needs
 
 returns : tie.Need-returns
-returns c = let e = c .before .before .before .before .before .before .before .before .before .before .before .admit-column .ensures in let t = c .before .before .before .before .before .before .before .before .before .tell-verdict .ensures in rw (← e) (t .0, t .1, update-told _ _ _ _ _ (c .before .before .before .before .before .before .dense .ensures) _ _ _ (pass _ e (c .before .before .before .before .before .before .before .enum-told .given .1)) (c .before .before .column-update .ensures))
+returns c =
+    let moved = c .before .before in
+    let shaped = moved .before .before .before .before in
+    let chosen = shaped .before in
+    let told = chosen .before .before in
+    let tested = told .before .before .admit-column .ensures in
+    let passed = pass _ tested (chosen .enum-told .given .1) in
+    rw (← tested) (
+      told .tell-verdict .ensures .0,
+      told .tell-verdict .ensures .1,
+      update-told _ _ _ _ _ (shaped .dense .ensures) _ _ _ passed (moved .column-update .ensures),
+    )
 
 returns-2 : tie.Need-returns-2
 unfolding updateLeft
-returns-2 c = let e = c .before .before .before .before .admit-column .ensures in let t = c .before .before .tell-verdict .ensures in rw (← e) (t .0, t .1, stop-left _ refl _ _ _ (c .enum-told2 .given .1))
+returns-2 c =
+    let told = c .before .before in
+    rw (← told .before .before .admit-column .ensures) (
+      told .tell-verdict .ensures .0,
+      told .tell-verdict .ensures .1,
+      stop-left _ refl _ _ _ (c .enum-told2 .given .1),
+    )
 
-pub koyramutey-column-update-dense-spec : {M : Type 1} → statement M
-koyramutey-column-update-dense-spec =
+pub kernel-column-update-dense-spec : {M : Type 1} → statement M
+kernel-column-update-dense-spec =
     tie.close
     (tie.spec
     admit-column-requires

@@ -1,0 +1,2 @@
+-- Laws on the definitions of specs/.
+pub mod Kernels
