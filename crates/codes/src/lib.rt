@@ -91,9 +91,9 @@ pub fn tell(
     accepted: &mut usize,
     place: &mut usize,
 ) -> u32
-    ensures { λ r. ⌜ (r ≡ codes.numberOfFit (call.fitOf done))
-        × (now (place .exit) ≡ codes.placeOfFit (call.fitOf done))
-        × (codes.report (now (status .exit)) (now (violation .exit)) (now (sets .exit)) (now (passes .exit)) (now (accepted .exit)) ≡ codes.reported (call.fitOf done) (codes.report (now (status .entry)) (now (violation .entry)) (now (sets .entry)) (now (passes .entry)) (now (accepted .entry)))) ⌝ }
+    ensures { λ r. ⌜ (let old = codes.report (now (status .entry)) (now (violation .entry)) (now (sets .entry)) (now (passes .entry)) (now (accepted .entry)) in
+        let new = codes.report (now (status .exit)) (now (violation .exit)) (now (sets .exit)) (now (passes .exit)) (now (accepted .exit)) in
+        (r ≡ codes.numberOfFit (call.fitOf done)) × (now (place .exit) ≡ codes.placeOfFit (call.fitOf done)) × (new ≡ codes.reported (call.fitOf done) old)) ⌝ }
 {
     match done {
         Fit::Refused(refusal) => {

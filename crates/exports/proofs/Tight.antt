@@ -41,7 +41,11 @@ fit-dense-tight : (κs : _) (a : _) (r r' : _) (s s' : _) → fit-dense-reads.Po
     let u' = t' .1 .1 .1 .1 in
     (r ≡ r')
     × (now (u .1 .1 .1 .1 .1 .0) ≡ now (u' .1 .1 .1 .1 .1 .0))
-    × ((now (u .0) ≡ now (u' .0)) × (now (u .1 .0) ≡ now (u' .1 .0)) × (now (u .1 .1 .0) ≡ now (u' .1 .1 .0)) × (now (u .1 .1 .1 .0) ≡ now (u' .1 .1 .1 .0)) × (now (u .1 .1 .1 .1 .0) ≡ now (u' .1 .1 .1 .1 .0)))
+    × ((now (u .0) ≡ now (u' .0))
+    × (now (u .1 .0) ≡ now (u' .1 .0))
+    × (now (u .1 .1 .0) ≡ now (u' .1 .1 .0))
+    × (now (u .1 .1 .1 .0) ≡ now (u' .1 .1 .1 .0))
+    × (now (u .1 .1 .1 .1 .0) ≡ now (u' .1 .1 .1 .1 .0)))
     × ((now (t .0) ≡ now (t' .0)) × (now (t .1 .0) ≡ now (t' .1 .0)) × (now (t .1 .1 .0) ≡ now (t' .1 .1 .0)) × (now (t .1 .1 .1 .0) ≡ now (t' .1 .1 .1 .0)))
 fit-dense-tight κs a r r' s s' p q = (coincide (p .0) (q .0), coincide (p .1) (q .1), same-report (coincide (p .2) (q .2)), same-lent (coincide (p .3) (q .3)))
 
@@ -52,11 +56,16 @@ fit-csc-tight : (κs : _) (a : _) (r r' : _) (s s' : _) → fit-csc-reads.Post �
     let u' = t' .1 .1 .1 .1 in
     (r ≡ r')
     × (now (u .1 .1 .1 .1 .1 .0) ≡ now (u' .1 .1 .1 .1 .1 .0))
-    × ((now (u .0) ≡ now (u' .0)) × (now (u .1 .0) ≡ now (u' .1 .0)) × (now (u .1 .1 .0) ≡ now (u' .1 .1 .0)) × (now (u .1 .1 .1 .0) ≡ now (u' .1 .1 .1 .0)) × (now (u .1 .1 .1 .1 .0) ≡ now (u' .1 .1 .1 .1 .0)))
+    × ((now (u .0) ≡ now (u' .0))
+    × (now (u .1 .0) ≡ now (u' .1 .0))
+    × (now (u .1 .1 .0) ≡ now (u' .1 .1 .0))
+    × (now (u .1 .1 .1 .0) ≡ now (u' .1 .1 .1 .0))
+    × (now (u .1 .1 .1 .1 .0) ≡ now (u' .1 .1 .1 .1 .0)))
     × ((now (t .0) ≡ now (t' .0)) × (now (t .1 .0) ≡ now (t' .1 .0)) × (now (t .1 .1 .0) ≡ now (t' .1 .1 .0)) × (now (t .1 .1 .1 .0) ≡ now (t' .1 .1 .1 .0)))
 fit-csc-tight κs a r r' s s' p q = (coincide (p .0) (q .0), coincide (p .1) (q .1), same-report (coincide (p .2) (q .2)), same-lent (coincide (p .3) (q .3)))
 
-full-grad-dense-tight : (κs : _) (a : _) (r r' : _) (s s' : _) → full-grad-reads.Post κs a r s → full-grad-reads.Post κs a r' s' → (r ≡ r') × (now (s .1 .1 .1 .1 .1 .0) ≡ now (s' .1 .1 .1 .1 .1 .0)) × (now (s .1 .1 .1 .1 .1 .1 .0) ≡ now (s' .1 .1 .1 .1 .1 .1 .0))
+full-grad-dense-tight : (κs : _) (a : _) (r r' : _) (s s' : _) → full-grad-reads.Post κs a r s → full-grad-reads.Post κs a r' s'
+    → (r ≡ r') × (now (s .1 .1 .1 .1 .1 .0) ≡ now (s' .1 .1 .1 .1 .1 .0)) × (now (s .1 .1 .1 .1 .1 .1 .0) ≡ now (s' .1 .1 .1 .1 .1 .1 .0))
 full-grad-dense-tight κs a r r' s s' p q = (coincide (p .0) (q .0), coincide (p .2) (q .2), coincide (p .1) (q .1))
 
 -- t begins with the index places, then the size and the place

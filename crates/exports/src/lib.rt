@@ -50,11 +50,16 @@ pub extern "C" fn koyramutey_fit_dense(
     accepted: &mut usize,
     place: &mut usize,
 ) -> u32
-    ensures { λ r. ⌜ (let done = call.fitCall (def.denseShape n p) def.nothing def.nothing (now (values .entry)) (now (y .entry)) (codes.settingsOf penalty alpha second tolerance start iterations epochs extrapolate depth) (lent (now (w .entry)) (now (fit .entry)) (now (indices .entry)) (now (scratch .entry))) in
+    ensures { λ r. ⌜ (let settings = codes.settingsOf penalty alpha second tolerance start iterations epochs extrapolate depth in
+        let buffers = lent (now (w .entry)) (now (fit .entry)) (now (indices .entry)) (now (scratch .entry)) in
+        let old = codes.report (now (status .entry)) (now (violation .entry)) (now (sets .entry)) (now (passes .entry)) (now (accepted .entry)) in
+        let new = codes.report (now (status .exit)) (now (violation .exit)) (now (sets .exit)) (now (passes .exit)) (now (accepted .exit)) in
+        let done = call.fitCall (def.denseShape n p) def.nothing def.nothing (now (values .entry)) (now (y .entry)) settings buffers in
         (r ≡ codes.numberOfFit done)
         × (now (place .exit) ≡ codes.placeOfFit done)
-        × (codes.report (now (status .exit)) (now (violation .exit)) (now (sets .exit)) (now (passes .exit)) (now (accepted .exit)) ≡ codes.reported done (codes.report (now (status .entry)) (now (violation .entry)) (now (sets .entry)) (now (passes .entry)) (now (accepted .entry))))
-        × (lent (now (w .exit)) (now (fit .exit)) (now (indices .exit)) (now (scratch .exit)) ≡ call.fitLeft (def.denseShape n p) def.nothing def.nothing (now (values .entry)) (now (y .entry)) (codes.settingsOf penalty alpha second tolerance start iterations epochs extrapolate depth) (lent (now (w .entry)) (now (fit .entry)) (now (indices .entry)) (now (scratch .entry))))) ⌝ }
+        × (new ≡ codes.reported done old)
+        × (lent (now (w .exit)) (now (fit .exit)) (now (indices .exit)) (now (scratch .exit))
+        ≡ call.fitLeft (def.denseShape n p) def.nothing def.nothing (now (values .entry)) (now (y .entry)) settings buffers)) ⌝ }
 {
     let none = [0u32; 0];
     let settings = settings_of(
@@ -112,11 +117,16 @@ pub extern "C" fn koyramutey_fit_csc(
     accepted: &mut usize,
     place: &mut usize,
 ) -> u32
-    ensures { λ r. ⌜ (let done = call.fitCall (def.cscShape n p) (now (starts .entry)) (now (rows .entry)) (now (values .entry)) (now (y .entry)) (codes.settingsOf penalty alpha second tolerance start iterations epochs extrapolate depth) (lent (now (w .entry)) (now (fit .entry)) (now (indices .entry)) (now (scratch .entry))) in
+    ensures { λ r. ⌜ (let settings = codes.settingsOf penalty alpha second tolerance start iterations epochs extrapolate depth in
+        let buffers = lent (now (w .entry)) (now (fit .entry)) (now (indices .entry)) (now (scratch .entry)) in
+        let old = codes.report (now (status .entry)) (now (violation .entry)) (now (sets .entry)) (now (passes .entry)) (now (accepted .entry)) in
+        let new = codes.report (now (status .exit)) (now (violation .exit)) (now (sets .exit)) (now (passes .exit)) (now (accepted .exit)) in
+        let done = call.fitCall (def.cscShape n p) (now (starts .entry)) (now (rows .entry)) (now (values .entry)) (now (y .entry)) settings buffers in
         (r ≡ codes.numberOfFit done)
         × (now (place .exit) ≡ codes.placeOfFit done)
-        × (codes.report (now (status .exit)) (now (violation .exit)) (now (sets .exit)) (now (passes .exit)) (now (accepted .exit)) ≡ codes.reported done (codes.report (now (status .entry)) (now (violation .entry)) (now (sets .entry)) (now (passes .entry)) (now (accepted .entry))))
-        × (lent (now (w .exit)) (now (fit .exit)) (now (indices .exit)) (now (scratch .exit)) ≡ call.fitLeft (def.cscShape n p) (now (starts .entry)) (now (rows .entry)) (now (values .entry)) (now (y .entry)) (codes.settingsOf penalty alpha second tolerance start iterations epochs extrapolate depth) (lent (now (w .entry)) (now (fit .entry)) (now (indices .entry)) (now (scratch .entry))))) ⌝ }
+        × (new ≡ codes.reported done old)
+        × (lent (now (w .exit)) (now (fit .exit)) (now (indices .exit)) (now (scratch .exit))
+        ≡ call.fitLeft (def.cscShape n p) (now (starts .entry)) (now (rows .entry)) (now (values .entry)) (now (y .entry)) settings buffers)) ⌝ }
 {
     let settings = settings_of(
         penalty,
@@ -157,9 +167,12 @@ pub extern "C" fn koyramutey_full_grad_dense(
     grad: &mut [f64],
     place: &mut usize,
 ) -> u32
-    ensures { λ r. ⌜ (r ≡ numberOfFault (calls.fullGradFault (def.denseShape n p) def.nothing def.nothing (now (values .entry)) (now (prepared .entry)) (now (fit .entry)) (now (grad .entry))))
-        × (now (place .exit) ≡ placeOfFault (calls.fullGradFault (def.denseShape n p) def.nothing def.nothing (now (values .entry)) (now (prepared .entry)) (now (fit .entry)) (now (grad .entry))))
-        × (now (grad .exit) ≡ calls.fullGrad (def.denseShape n p) def.nothing def.nothing (now (values .entry)) (now (prepared .entry)) (now (fit .entry)) (now (grad .entry))) ⌝ }
+    ensures { λ r. ⌜ (let shape = def.denseShape n p in
+        let X = now (values .entry) in
+        let fault = calls.fullGradFault shape def.nothing def.nothing X (now (prepared .entry)) (now (fit .entry)) (now (grad .entry)) in
+        (r ≡ numberOfFault fault)
+        × (now (place .exit) ≡ placeOfFault fault)
+        × (now (grad .exit) ≡ calls.fullGrad shape def.nothing def.nothing X (now (prepared .entry)) (now (fit .entry)) (now (grad .entry)))) ⌝ }
 {
     let none = [0u32; 0];
     let verdict = datafits::full_grad(dense(n, p), &none, &none, values, prepared, fit, grad);

@@ -35,7 +35,13 @@ same-length-4 : tie.Need-same-length-4
 same-length-4 c = search needs
 
 returns : tie.Need-returns
-returns c = called _ _ _ _ _ _ _ _ _ (c .before .before .before .before .before .before .before .before .before .before .before .before .before .before .before .before .before .before .before .before .before .before .dense .ensures) (c .before .before .before .before .before .before .before .before .before .before .before .before .before .before .before .before .before .before .before .before .before .before .before .settings-of .ensures) _ _ _ _ _ _ (c .before .before .before .before .before .before .before .before .before .before .before .before .before .before .before .coordinate-descent .ensures .0) (c .before .before .before .before .before .before .before .before .before .before .before .before .before .before .before .coordinate-descent .ensures .1) (c .tell .ensures .0) (c .tell .ensures .1) (c .tell .ensures .2)
+returns c =
+    let fitted = c .before .before .before .before .before .before .before .before .before .before .before .before .before .before .before in
+    let shaped = fitted .before .before .before .before .before .before .before in
+    let set = shaped .before .settings-of .ensures in
+    let told = c .tell .ensures in
+    let done = fitted .coordinate-descent .ensures in
+    called _ _ _ _ _ _ _ _ _ (shaped .dense .ensures) set _ _ _ _ _ _ (done .0) (done .1) (told .0) (told .1) (told .2)
 
 pub koyramutey-fit-dense-spec : {M : Type 1} → statement M
 koyramutey-fit-dense-spec =

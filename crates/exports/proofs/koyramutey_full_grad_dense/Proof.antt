@@ -22,7 +22,11 @@ same-length : tie.Need-same-length
 same-length c = search needs
 
 returns : tie.Need-returns
-returns c = let h = c .before .before .before .before .full-grad .ensures in rw (← c .before .before .before .before .before .before .before .before .dense .ensures, ← h .0) (c .tell-verdict .ensures .0, c .tell-verdict .ensures .1, h .1)
+returns c =
+    let called = c .before .before .before .before in
+    let told = c .tell-verdict .ensures in
+    let done = called .full-grad .ensures in
+    rw (← called .before .before .before .before .dense .ensures, ← done .0) (told .0, told .1, done .1)
 
 pub koyramutey-full-grad-dense-spec : {M : Type 1} → statement M
 koyramutey-full-grad-dense-spec =
