@@ -29,7 +29,7 @@ extern "C" {
 
    Settings:
      penalty      0 L1, 1 L1PlusL2, 2 MCP
-     alpha        finite and at least 0 (-0.0 passes, here and below)
+     alpha        finite and at least 0; -0.0 passes, as it does for the ratio and for the tolerance
      second       L1: not looked at; L1PlusL2: its ratio, 0 to 1; MCP: its gamma, finite and above 0
      tolerance    finite and at least 0
      start        1 to 8,192: the least size of a working set; above p it counts as p
