@@ -1,2 +1,3 @@
 -- Laws on the definitions of `designs`.
 pub mod ByRows
+pub mod Finite

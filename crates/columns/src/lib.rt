@@ -2,7 +2,7 @@
 // is exported. A column operation touches the column's stored entries and nothing of size n or p besides.
 ghost use mathlib.Core.Path.{_≡_};
 ghost use Prim.Native.Nat.{ℕ, _+_, _*_, _<_, _≤_};
-ghost use lib.ListN.{length, getD};
+ghost use lib.ListN.{length, getD, set};
 ghost use Rattle.doubles.specs.Num.{#0, at, finite};
 ghost use Rattle.doubles.specs.Steps.{all, tab};
 ghost use Rattle.designs.specs.Design as def;
@@ -29,6 +29,50 @@ pub fn reading(v: &[f64], sample: Sample) -> f64
 {
     let i = sample.0;
     v[i]
+}
+
+// It becomes x for one.
+pub fn set_reading(v: &mut [f64], sample: Sample, x: f64)
+    requires { ⌜ sample .0 < length (now v) ⌝ }
+    ensures { λ _. ⌜ now (v .exit) ≡ set (now (v .entry)) (sample .0) x ⌝ }
+{
+    let i = sample.0;
+    v[i] = x;
+}
+
+// The feature of an entry of a working set.
+pub fn feature_of(ws: &[u32], k: usize) -> Feature
+    requires { ⌜ k < length (now ws) ⌝ }
+    ensures { λ r. ⌜ r .0 ≡ getD (now (ws .entry)) k 0 ⌝ }
+{
+    Feature(ws[k] as usize)
+}
+
+// The weight of a feature.
+pub fn weight(w: &[f64], feature: Feature) -> f64
+    requires { ⌜ feature .0 < length (now w) ⌝ }
+    ensures { λ r. ⌜ r ≡ at (now (w .entry)) (feature .0) ⌝ }
+{
+    let j = feature.0;
+    w[j]
+}
+
+// It becomes x.
+pub fn set_weight(w: &mut [f64], feature: Feature, x: f64)
+    requires { ⌜ feature .0 < length (now w) ⌝ }
+    ensures { λ _. ⌜ now (w .exit) ≡ set (now (w .entry)) (feature .0) x ⌝ }
+{
+    let j = feature.0;
+    w[j] = x;
+}
+
+// The Lipschitz constant of a feature: the prepared numbers begin with these.
+pub fn constant(prepared: &[f64], feature: Feature) -> f64
+    requires { ⌜ feature .0 < length (now prepared) ⌝ }
+    ensures { λ r. ⌜ r ≡ at (now (prepared .entry)) (feature .0) ⌝ }
+{
+    let j = feature.0;
+    prepared[j]
 }
 
 // Whether every place is finite.
@@ -134,7 +178,8 @@ fn csc_update(
     fit: &mut [f64],
 )
     requires { ⌜ (feature .0 < shape .p) × Sound (shape .n) (shape .p) (now starts) (now rows) (now values) × (shape .n ≤ length (now fit)) ⌝ }
-    ensures { λ _. ⌜ now (fit .exit) ≡ def.moved (def.csc (shape .n) (shape .p) (now (starts .entry)) (now (rows .entry)) (now (values .entry))) (feature .0) d (now (fit .entry)) ⌝ }
+    ensures { λ _. ⌜ now (fit .exit)
+        ≡ def.moved (def.csc (shape .n) (shape .p) (now (starts .entry)) (now (rows .entry)) (now (values .entry))) (feature .0) d (now (fit .entry)) ⌝ }
 {
     let j = feature.0;
     let start = starts[j] as usize;
@@ -143,8 +188,8 @@ fn csc_update(
     let mut k: usize = 0;
     while k < count {
         let e = start + k;
-        let i = sample_of(rows, e).0;
-        fit[i] = fit[i] + d * values[e];
+        let sample = sample_of(rows, e);
+        set_reading(fit, sample, reading(fit, sample) + d * values[e]);
         k += 1;
     }
 }
@@ -169,6 +214,54 @@ pub fn column_update(
     }
 }
 
+// ---- whether the fit is finite where a column moved it
+
+fn csc_finite(
+    shape: Shape,
+    starts: &[u32],
+    rows: &[u32],
+    values: &[f64],
+    feature: Feature,
+    fit: &[f64],
+) -> bool
+    requires { ⌜ (feature .0 < shape .p) × Sound (shape .n) (shape .p) (now starts) (now rows) (now values) × (shape .n ≤ length (now fit)) ⌝ }
+    ensures { λ r. ⌜ r
+        ≡ def.finiteAt (def.csc (shape .n) (shape .p) (now (starts .entry)) (now (rows .entry)) (now (values .entry))) (feature .0) (now (fit .entry)) ⌝ }
+{
+    let j = feature.0;
+    let start = starts[j] as usize;
+    let end = starts[j + 1] as usize;
+    let many = end - start;
+    let mut k = 0;
+    while k < many {
+        let sample = sample_of(rows, start + k);
+        if is_finite(reading(fit, sample)) {} else {
+            return false;
+        }
+        k += 1;
+    }
+    true
+}
+
+// Whether every fit entry that a column changed is finite, in either layout.
+pub fn column_finite(
+    shape: Shape,
+    starts: &[u32],
+    rows: &[u32],
+    values: &[f64],
+    feature: Feature,
+    fit: &[f64],
+) -> bool
+    requires { ⌜ (feature .0 < shape .p) × Whole shape (now starts) (now rows) (now values) × (length (now fit) ≡ shape .n) ⌝ }
+    ensures { λ r. ⌜ r ≡ def.finiteAt (def.design shape (now (starts .entry)) (now (rows .entry)) (now (values .entry))) (feature .0) (now (fit .entry)) ⌝ }
+{
+    let layout = shape.layout;
+    match layout {
+        Layout::Dense => all_finite(fit),
+        Layout::Csc => csc_finite(shape, starts, rows, values, feature, fit),
+    }
+}
+
 // ---- the fit of a list of features
 
 // Every place becomes +0.0.
@@ -190,8 +283,9 @@ fn row_fit(values: &[f64], base: usize, ws: &[u32], w: &[f64]) -> f64
     let mut s = 0.0;
     let mut k = 0;
     while k < ws.len() {
-        let j = ws[k] as usize;
-        s = s + w[j] * values[base + j];
+        let feature = feature_of(ws, k);
+        let j = feature.0;
+        s = s + weight(w, feature) * values[base + j];
         k += 1;
     }
     s
@@ -219,13 +313,24 @@ fn csc_update_all(
     w: &[f64],
     fit: &mut [f64],
 )
-    requires { ⌜ ((k : ℕ) → k < length (now ws) → getD (now ws) k 0 < shape .p) × Sound (shape .n) (shape .p) (now starts) (now rows) (now values) × (length (now w) ≡ shape .p) × (length (now fit) ≡ shape .n) ⌝ }
-    ensures { λ _. ⌜ now (fit .exit) ≡ def.movedAll (def.csc (shape .n) (shape .p) (now (starts .entry)) (now (rows .entry)) (now (values .entry))) (now (ws .entry)) (now (w .entry)) (now (fit .entry)) ⌝ }
+    requires { ⌜ ((k : ℕ) → k < length (now ws) → getD (now ws) k 0 < shape .p)
+        × Sound (shape .n) (shape .p) (now starts) (now rows) (now values) × (length (now w) ≡ shape .p) × (length (now fit) ≡ shape .n) ⌝ }
+    ensures { λ _. ⌜ now (fit .exit)
+        ≡ def.movedAll (def.csc (shape .n) (shape .p) (now (starts .entry)) (now (rows .entry)) (now (values .entry)))
+        (now (ws .entry)) (now (w .entry)) (now (fit .entry)) ⌝ }
 {
     let mut k = 0;
     while k < ws.len() {
-        let j = ws[k] as usize;
-        csc_update(shape, starts, rows, values, Feature(j), w[j], fit);
+        let feature = feature_of(ws, k);
+        csc_update(
+            shape,
+            starts,
+            rows,
+            values,
+            feature,
+            weight(w, feature),
+            fit,
+        );
         k += 1;
     }
 }

@@ -2,3 +2,4 @@
 pub mod Search
 pub mod Layouts
 pub mod Passed
+pub mod Gradients

@@ -1,10 +1,11 @@
 -- A design gives of each feature its stored entries; every column operation is defined once, over these, for both layouts.
+use mathlib.Core.Bool.{Bool}
 use Prim.Native.Nat.{ℕ, _+_, _-_, _*_}
 use mathlib.Core.List.{List, [], _++_}
 use lib.ListN.{length, getD, set}
 use lib.Ieee.{Float}
-use Rattle.doubles.specs.Num.{_⊕_, _⊖_, _⊗_, _⊘_, #0, count, at, abs}
-use Rattle.doubles.specs.Steps.{steps, sum, tab, largestFrom}
+use Rattle.doubles.specs.Num.{_⊕_, _⊖_, _⊗_, _⊘_, #0, count, at, abs, finite}
+use Rattle.doubles.specs.Steps.{steps, sum, tab, all, largestFrom}
 use Rattle.designs.specs.declared.Layout.{Layout}
 use Rattle.designs.specs.declared.Layout.the-variants.{Dense, Csc}
 use Rattle.designs.specs.declared.Shape.{Shape}
@@ -71,9 +72,12 @@ dots X v = tab (λ j. dot X j v) (X .p)
 unfoldable pub prepared : Design → List Float → List Float
 prepared X y = tab (lipschitz X) (X .p) ++ dots X y
 
--- "Gradient: (column·fit − X'y) / n", where q is the column's entry of X'y
+-- "Gradient: (column·fit − X'y) / n", of the product of column and fit, and the column's entry q of X'y
+unfoldable pub gradientFrom : Float → Float → ℕ → Float
+gradientFrom product q n = (product ⊖ q) ⊘ count n
+
 unfoldable pub gradient : Design → ℕ → List Float → Float → Float
-gradient X j fit q = (dot X j fit ⊖ q) ⊘ count (X .n)
+gradient X j fit q = gradientFrom (dot X j fit) q (X .n)
 
 -- of every feature, where q gives the entries of X'y
 unfoldable pub fullGradient : Design → List Float → (ℕ → Float) → List Float
@@ -94,6 +98,10 @@ alphaMax X y = largestFrom #0 (λ j. abs (dot X j y)) (X .p) ⊘ count (X .n)
 -- "the fit gains difference·x": the fit with d times column j added
 unfoldable pub moved : Design → ℕ → Float → List Float → List Float
 moved X j d fit = steps (λ k f. set f (X .row j k) (at f (X .row j k) ⊕ d ⊗ X .value j k)) (X .many j) fit
+
+-- every "changed fit entry" is finite: the entries of column j's samples
+unfoldable pub finiteAt : Design → ℕ → List Float → Bool
+finiteAt X j fit = all (λ k. finite (at fit (X .row j k))) (X .many j)
 
 -- the columns of a list of features added in its order, each times its weight
 unfoldable pub movedAll : Design → List ℕ → List Float → List Float → List Float

@@ -39,7 +39,7 @@ pub fn gradient_j(
 {
     let s = columns::column_dot(shape, starts, rows, values, feature, fit);
     let q = prepared[shape.p + feature.0];
-    (s - q) / (shape.n as f64)
+    passes::gradient_from(s, q, shape.n)
 }
 
 pub fn full_grad(

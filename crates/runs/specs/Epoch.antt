@@ -8,7 +8,7 @@ use Rattle.doubles.specs.Num.{_⊖_, _⊘_, #0, #1, at, finite, pick, _and_, _o
 use Rattle.doubles.specs.Steps.{all, largest, tab, Stage, going, bad, upto}
 use Rattle.leaves.specs.Penalty.{prox, violation}
 use Rattle.leaves.specs.declared.penalties.separable.Penalty.{Penalty}
-use Rattle.designs.specs.Design.{Design, design, gradient, moved}
+use Rattle.designs.specs.Design.{Design, design, gradient, moved, finiteAt}
 use Rattle.designs.specs.declared.Shape.{Shape}
 
 -- what a solve is given beside targets and settings: a design of n samples and p features, the penalty, and the numbers that were prepared, p
@@ -68,10 +68,7 @@ newWeight T s j = prox (T .penalty) (at (s .weights) j ⊖ gradientOf T (s .fit)
 unfoldable pub movedBy : Design → ℕ → Float → List Float → List Float
 movedBy X j d fit = pick (eq d #0) fit (moved X j d fit)
 
--- every "changed fit entry" is finite: the entries of column j's samples, where there was a difference
-unfoldable pub finiteAt : Design → ℕ → List Float → Bool
-finiteAt X j fit = all (λ k. finite (at fit (X .row j k))) (X .many j)
-
+-- every "changed fit entry" is finite, where there was a difference
 unfoldable pub movedFinite : Design → ℕ → Float → List Float → Bool
 movedFinite X j d fit = eq d #0 or finiteAt X j (moved X j d fit)
 

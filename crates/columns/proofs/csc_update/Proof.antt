@@ -1,6 +1,6 @@
 -- `csc_update`: the invariant is the definition's loop over the stored entries passed; that each row is below n comes from soundness.
 -- Assumes nothing.
-use mathlib.Core.Path.{_≡_}
+use mathlib.Core.Path.{_≡_, _∙_}
 use Prim.Native.Nat.{_≤_, _<_, _-_, _+_}
 use lib.ListN.{length, getD, set}
 use denote.Ref.{now}
@@ -15,13 +15,20 @@ use Rattle.columns.proofs.csc_update.Statement.{statement}
 use Rattle.columns.proofs.csc_update.Tie as tie
 
 abbrev Inv-loop : tie.InvT-loop
-Inv-loop starts rows values d fit₀ j start end many k₀ fit k = (k ≤ many) × (start + many ≤ length values) × (length rows ≡ length values) × (length fit ≡ length fit₀) × (fit ≡ steps (λ i f. set f (getD rows (start + i) 0) (at f (getD rows (start + i) 0) ⊕ d ⊗ at values (start + i))) k fit₀)
+Inv-loop starts rows values d fit₀ j start end many k₀ fit k = (k ≤ many) × (start + many ≤ length values) × (length rows ≡ length values)
+    × (length fit ≡ length fit₀)
+    × (fit ≡ steps (λ i f. set f (getD rows (start + i) 0) (at f (getD rows (start + i) 0) ⊕ d ⊗ at values (start + i))) k fit₀)
 
 abbrev μ-loop : tie.MeasureT-loop
 μ-loop starts rows values d fit₀ j start end many k₀ fit k = many - k
 
-below : (c : tie.In-loop Inv-loop μ-loop) → getD (now (c .before .before .before .before .before .before .before .before .args .rows)) (getD (now (c .before .before .before .before .before .before .before .before .args .starts)) (c .before .before .before .before .before .before .before .before .args .feature .0) 0 + c .before .loop .k) 0 < c .before .before .before .before .before .before .before .before .args .shape .n
-below c = row-below (c .before .before .before .before .before .before .before .before .pre .1) (c .before .before .before .before .before .before .before .before .args .feature .0) (c .before .before .before .before .before .before .before .before .pre .0) (c .before .loop .k) (c .loop-test .taken)
+below : (c : tie.After-sample-of Inv-loop μ-loop)
+    → c .sample-of .result .0 < c .before .before .before .before .before .before .before .before .before .args .shape .n
+below c =
+    let entry = c .before .before .before .before .before .before .before .before .before in
+    let e = row-below (entry .pre .1) (entry .args .feature .0) (entry .pre .0) (c .before .before .loop .k) (c .before .loop-test .taken) in
+    let q = c .sample-of .ensures in
+    omega arith
 
 mul-start : tie.Need-mul-start Inv-loop μ-loop
 mul-start c = let e = c .before .before .before .before .pre .1 .columns in omega arith
@@ -45,10 +52,12 @@ cast-end : tie.Need-cast-end Inv-loop μ-loop
 cast-end c = omega (arith, c .shared-slice-known5 .given (c .before .before .before .before .before .before .args .feature .0 + 1))
 
 sub-count : tie.Need-sub-count Inv-loop μ-loop
-sub-count c = c .before .before .before .before .before .before .pre .1 .rising .up _ (c .before .before .before .before .before .before .pre .0)
+sub-count c = let entry = c .before .before .before .before .before .before in entry .pre .1 .rising .up _ (entry .pre .0)
 
 loop-holds : tie.Need-loop-holds Inv-loop μ-loop
-loop-holds c = (search needs, column-end (c .before .before .before .before .before .before .pre .1) _ (c .before .before .before .before .before .before .pre .0), c .before .before .before .before .before .before .pre .1 .entries, search needs, steps-none _ _)
+loop-holds c =
+    let entry = c .before .before .before .before .before .before in
+    (search needs, column-end (entry .pre .1) _ (entry .pre .0), entry .pre .1 .entries, search needs, steps-none _ _)
 
 add-e : tie.Need-add-e Inv-loop μ-loop
 add-e c = search needs
@@ -56,23 +65,17 @@ add-e c = search needs
 sample-of-requires : tie.Need-sample-of-requires Inv-loop μ-loop
 sample-of-requires c κs = search needs
 
-mul-fit : tie.Need-mul-fit Inv-loop μ-loop
-mul-fit c = let e = below (c .before) in let q = c .sample-of .ensures in omega arith
+reading-requires : tie.Need-reading-requires Inv-loop μ-loop
+reading-requires c κs = omega (arith, below (c .before .before))
 
-slice-read-fit : tie.Need-slice-read-fit Inv-loop μ-loop
-slice-read-fit c = let e = below (c .before .before) in let q = c .before .sample-of .ensures in omega arith
+mul-set-reading : tie.Need-mul-set-reading Inv-loop μ-loop
+mul-set-reading c = search needs
 
-mul-fit-2 : tie.Need-mul-fit-2 Inv-loop μ-loop
-mul-fit-2 c = search needs
+shared-slice-read-set-reading : tie.Need-shared-slice-read-set-reading Inv-loop μ-loop
+shared-slice-read-set-reading c = search needs
 
-shared-slice-read-fit : tie.Need-shared-slice-read-fit Inv-loop μ-loop
-shared-slice-read-fit c = search needs
-
-mul-fit-3 : tie.Need-mul-fit-3 Inv-loop μ-loop
-mul-fit-3 c = let e = below (c .before .before .before) in let q = c .before .before .sample-of .ensures in omega arith
-
-slice-write-fit : tie.Need-slice-write-fit Inv-loop μ-loop
-slice-write-fit c = let e = below (c .before .before .before) in let q = c .before .before .sample-of .ensures in omega arith
+set-reading-requires : tie.Need-set-reading-requires Inv-loop μ-loop
+set-reading-requires c κs = omega (arith, below (c .before .before .before .before))
 
 add-k : tie.Need-add-k Inv-loop μ-loop
 add-k c = search needs
@@ -81,7 +84,15 @@ loop-less : tie.Need-loop-less Inv-loop μ-loop
 loop-less c = search needs
 
 loop-again : tie.Need-loop-again Inv-loop μ-loop
-loop-again c = (search needs, search needs, search needs, search needs, steps-turn _ _ _ _ _ (c .before .before .before .before .loop .inv .4) (rw (c .before .before .sample-of .ensures)))
+loop-again c = (
+  search needs,
+  search needs,
+  search needs,
+  search needs,
+  steps-turn _ _ _ _ _ (c .before .before .before .before .before .before .before .before .before .loop .inv .4)
+      (c .before .before .set-reading .ensures
+      ∙ rw (c .before .before .before .before .reading .ensures, c .before .before .before .before .before .before .before .sample-of .ensures)),
+)
 
 same-length : tie.Need-same-length Inv-loop μ-loop
 same-length c = search needs
@@ -107,12 +118,10 @@ csc-update-spec =
     loop-holds
     add-e
     sample-of-requires
-    mul-fit
-    slice-read-fit
-    mul-fit-2
-    shared-slice-read-fit
-    mul-fit-3
-    slice-write-fit
+    reading-requires
+    mul-set-reading
+    shared-slice-read-set-reading
+    set-reading-requires
     add-k
     loop-less
     loop-again

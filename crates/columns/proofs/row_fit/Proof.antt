@@ -5,7 +5,7 @@ use lib.ListN.{length, getD}
 use denote.Ref.{now}
 use Rattle.doubles.specs.Num.{_⊗_, at}
 use Rattle.doubles.specs.Steps.{sum as total}
-use Rattle.doubles.proofs.Laws.Steps.{steps-none, steps-more, steps-all}
+use Rattle.doubles.proofs.Laws.Steps.{steps-none, steps-turn, steps-all}
 use Rattle.columns.specs.RowFit.{rowFit}
 use native.Mathlib.Omega.{arith}
 use borrow.Author.Needs.{needs}
@@ -18,35 +18,30 @@ Inv-loop values base ws w s₀ k₀ s k = (k ≤ length ws) × (s ≡ total (λ 
 abbrev μ-loop : tie.MeasureT-loop
 μ-loop values base ws w s₀ k₀ s k = length ws - k
 
-below : (c : tie.In-loop Inv-loop μ-loop) → getD (now (c .before .before .args .ws)) (c .before .loop .k) 0 < length (now (c .before .before .args .w))
-below c = c .before .before .pre .0 _ (c .loop-test .taken)
+below : (c : tie.After-feature-of Inv-loop μ-loop)
+    → c .feature-of .result .0 < length (now (c .before .before .before .before .before .before .args .w))
+below c =
+    let e = c .before .before .before .before .before .before .pre .0 _ (c .before .loop-test .taken) in
+    let q = c .feature-of .ensures in
+    omega arith
 
 loop-holds : tie.Need-loop-holds Inv-loop μ-loop
 loop-holds c = (search needs, steps-none _ _)
 
-mul-j : tie.Need-mul-j Inv-loop μ-loop
-mul-j c = search needs
+feature-of-requires : tie.Need-feature-of-requires Inv-loop μ-loop
+feature-of-requires c κs = search needs
 
-shared-slice-read-j : tie.Need-shared-slice-read-j Inv-loop μ-loop
-shared-slice-read-j c = search needs
+weight-requires : tie.Need-weight-requires Inv-loop μ-loop
+weight-requires c κs = below c
 
-cast-j : tie.Need-cast-j Inv-loop μ-loop
-cast-j c = omega (arith, below (c .before))
+add-s : tie.Need-add-s Inv-loop μ-loop
+add-s c = omega (arith, below (c .before))
 
 mul-s : tie.Need-mul-s Inv-loop μ-loop
 mul-s c = omega (arith, below (c .before))
 
 shared-slice-read-s : tie.Need-shared-slice-read-s Inv-loop μ-loop
 shared-slice-read-s c = omega (arith, below (c .before .before))
-
-add-s : tie.Need-add-s Inv-loop μ-loop
-add-s c = omega (arith, below (c .before .before))
-
-mul-s-2 : tie.Need-mul-s-2 Inv-loop μ-loop
-mul-s-2 c = omega (arith, below (c .before .before))
-
-shared-slice-read-s-2 : tie.Need-shared-slice-read-s-2 Inv-loop μ-loop
-shared-slice-read-s-2 c = omega (arith, below (c .before .before .before))
 
 add-k : tie.Need-add-k Inv-loop μ-loop
 add-k c = search needs
@@ -55,7 +50,11 @@ loop-less : tie.Need-loop-less Inv-loop μ-loop
 loop-less c = search needs
 
 loop-again : tie.Need-loop-again Inv-loop μ-loop
-loop-again c = (search needs, steps-more _ _ _ _ (c .before .before .before .before .loop .inv .1))
+loop-again c = (
+  search needs,
+  steps-turn _ _ _ _ _ (c .before .before .before .before .loop .inv .1)
+      (rw (c .before .weight .ensures, c .before .before .feature-of .ensures)),
+)
 
 returns : tie.Need-returns Inv-loop μ-loop
 unfolding rowFit
@@ -68,14 +67,11 @@ row-fit-spec =
     Inv-loop
     μ-loop
     loop-holds
-    mul-j
-    shared-slice-read-j
-    cast-j
+    feature-of-requires
+    weight-requires
+    add-s
     mul-s
     shared-slice-read-s
-    add-s
-    mul-s-2
-    shared-slice-read-s-2
     add-k
     loop-less
     loop-again

@@ -4,13 +4,13 @@ use mathlib.Core.Bool.{Bool, true, false}
 use mathlib.Core.List.{List}
 use Prim.Native.Nat.{ℕ, _+_, _<_}
 use lib.Ieee.{Float, binary64, unlike, lt, eq}
-use Rattle.doubles.specs.Num.{_⊘_, #0, #1, count, at, finite}
+use Rattle.doubles.specs.Num.{_⊘_, #0, #1, at, finite}
 use Rattle.doubles.specs.Sign.{Turned, Signs}
-use Rattle.doubles.proofs.Laws.Turned.{turned-add, turned-sub, turned-mul, turned-over}
+use Rattle.doubles.proofs.Laws.Turned.{turned-add, turned-mul}
 use Rattle.doubles.proofs.Laws.Signs.{sum-turned, signs-at, signs-set}
 use Rattle.leaves.specs.Odd.{Odd}
 use Rattle.leaves.specs.declared.penalties.separable.Penalty.{Penalty}
-use Rattle.designs.specs.Design.{Design, dot, squares, gradient, moved}
+use Rattle.designs.specs.Design.{Design, dot, squares, moved}
 use Rattle.runs.specs.Epoch.{Task, Point}
 use Rattle.signs.proofs.Laws.Exact.{unlike-back, sum-exact, steps-related}
 
@@ -32,11 +32,6 @@ module _ (X : Design) (other : ℕ → ℕ → Float) (j : ℕ) (a t : Bool) (h 
   pub squares-same : squares X j ≡ squares (with-values X other) j
   unfolding squares
   squares-same = sum-exact a (X .value j) (other j) (X .value j) (other j) (X .many j) h h
-
-  pub gradient-turned : {v v' : List Float} {q q' : Float} → Signs (λ (i : ℕ). t) v v' → Turned (unlike a t) q q'
-      → Turned (unlike a t) (gradient X j v q) (gradient (with-values X other) j v' q')
-  unfolding gradient
-  gradient-turned p q = turned-over binary64 (count (X .n)) (turned-sub binary64 (dot-turned p) q)
 
   pub moved-turned : {d d' : Float} {v v' : List Float} → Turned (unlike a t) d d' → Signs (λ (i : ℕ). t) v v'
       → Signs (λ (i : ℕ). t) (moved X j d v) (moved (with-values X other) j d' v')

@@ -1,5 +1,5 @@
 -- Gradients turn with their column and the targets, as the weights do; so the violations, their tests and the largest are the same. Assumes nothing.
-use mathlib.Core.Path.{_≡_}
+use mathlib.Core.Path.{_≡_, refl}
 use mathlib.Core.List.{List}
 use Prim.Native.Nat.{ℕ, _<_}
 use lib.ListN.{length, getD}
@@ -8,9 +8,10 @@ use Rattle.doubles.specs.Sign.{Turned}
 use Rattle.doubles.proofs.Laws.Compare.{finite-turned}
 use Rattle.doubles.proofs.Laws.Signs.{signs-at}
 use Rattle.doubles.proofs.Laws.Steps.{tab-same}
+use Rattle.designs.proofs.Laws.Gradients.{gradient-turned}
 use Rattle.runs.specs.Epoch.{Point, gradientOf, violationOf, known, allKnown, violations, worst, knownIn, worstIn}
 use Rattle.signs.proofs.Laws.Exact.{all-same, largest-same}
-use Rattle.signs.proofs.Laws.Pairs.{TurnedPoint, Pair, one, two, gradient-turned}
+use Rattle.signs.proofs.Laws.Pairs.{TurnedPoint, Pair, with-values, one, two, dot-turned}
 
 -- a set of features of the design
 abbrev pub Within : ℕ → List ℕ → Type 0
@@ -19,7 +20,10 @@ Within p ws = (i : ℕ) → i < length ws → getD ws i 0 < p
 module _ (P : Pair) {q q' : Point} (r : TurnedPoint (P .turns) (P .target) q q') where
   pub gradient-of : (j : ℕ) → j < P .p → Turned (unlike (P .turns j) (P .target)) (gradientOf (one P) (q .fit) j) (gradientOf (two P) (q' .fit) j)
   unfolding gradientOf
-  gradient-of j l = gradient-turned (P .X) (P .other) j (P .turns j) (P .target) (λ k m. P .entries j k l m) (r .fit) (P .products j l)
+  gradient-of j l =
+      gradient-turned (P .X) (with-values (P .X) (P .other)) j (q .fit) (q' .fit) refl
+      (dot-turned (P .X) (P .other) j (P .turns j) (P .target) (λ k m. P .entries j k l m) (r .fit))
+      (P .products j l)
 
   pub violation-same : (j : ℕ) → j < P .p → violationOf (one P) (q .weights) (q .fit) j ≡ violationOf (two P) (q' .weights) (q' .fit) j
   unfolding violationOf

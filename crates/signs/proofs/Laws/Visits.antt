@@ -11,7 +11,8 @@ use Rattle.doubles.specs.Sign.{Turned, Signs}
 use Rattle.doubles.proofs.Laws.Turned.{turned-sub, turned-over}
 use Rattle.doubles.proofs.Laws.Compare.{finite-turned, eq-turned}
 use Rattle.doubles.proofs.Laws.Signs.{zero-turned, signs-at, signs-set}
-use Rattle.runs.specs.Epoch.{Point, constant, gradientOf, newWeight, movedBy, finiteAt, movedFinite, fine, visited, visit, visits}
+use Rattle.designs.specs.Design.{finiteAt}
+use Rattle.runs.specs.Epoch.{Point, constant, gradientOf, newWeight, movedBy, movedFinite, fine, visited, visit, visits}
 use Rattle.leaves.specs.Penalty.{prox}
 use Rattle.signs.specs.Turning.{Both, both-going, both-bad}
 use Rattle.signs.proofs.Laws.Exact.{related, all-same, upto-related}

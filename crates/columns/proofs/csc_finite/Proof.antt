@@ -8,24 +8,26 @@ use denote.Ref.{now}
 use Rattle.doubles.specs.Num.{at, finite}
 use Rattle.doubles.specs.Steps.{all}
 use Rattle.doubles.proofs.Laws.Steps.{steps-none, steps-all, all-more, all-broken}
-use Rattle.designs.specs.Design.{csc}
 use Rattle.designs.proofs.Laws.Layouts.{column-end, row-below}
-use Rattle.runs.specs.Epoch.{finiteAt}
+use Rattle.designs.specs.Design.{csc, finiteAt}
 use native.Mathlib.Omega.{arith}
-use Rattle.epochs.proofs.csc_finite.Statement.{statement}
-use Rattle.epochs.proofs.csc_finite.Tie as tie
+use Rattle.columns.proofs.csc_finite.Statement.{statement}
+use Rattle.columns.proofs.csc_finite.Tie as tie
 
 abbrev Inv-loop : tie.InvT-loop
-Inv-loop starts rows values fit j start end many k₀ k = (k ≤ many) × (start + many ≤ length values) × (length rows ≡ length values) × (true ≡ all (λ i. finite (at fit (getD rows (start + i) 0))) k)
+Inv-loop starts rows values fit j start end many k₀ k = (k ≤ many) × (start + many ≤ length values) × (length rows ≡ length values)
+    × (true ≡ all (λ i. finite (at fit (getD rows (start + i) 0))) k)
 
 abbrev μ-loop : tie.MeasureT-loop
 μ-loop starts rows values fit j start end many k₀ k = many - k
 
-below : (c : tie.In-loop Inv-loop μ-loop) → getD (now (c .before .before .before .before .before .before .before .before .args .rows)) (getD (now (c .before .before .before .before .before .before .before .before .args .starts)) (c .before .before .before .before .before .before .before .before .args .feature .0) 0 + c .before .loop .k) 0 < c .before .before .before .before .before .before .before .before .args .shape .n
-below c = row-below (c .before .before .before .before .before .before .before .before .pre .1) (c .before .before .before .before .before .before .before .before .args .feature .0) (c .before .before .before .before .before .before .before .before .pre .0) (c .before .loop .k) (c .loop-test .taken)
-
-tested : (c : tie.After-is-finite Inv-loop μ-loop) → finite (at (now (c .before .before .before .before .before .before .before .before .before .before .before .args .fit)) (getD (now (c .before .before .before .before .before .before .before .before .before .before .before .args .rows)) (getD (now (c .before .before .before .before .before .before .before .before .before .before .before .args .starts)) (c .before .before .before .before .before .before .before .before .before .before .before .args .feature .0) 0 + c .before .before .before .before .loop .k) 0)) ≡ c .is-finite .result
-tested c = sym (c .is-finite .ensures ∙ rw (c .before .reading .ensures, c .before .before .sample-of .ensures))
+below : (c : tie.After-sample-of Inv-loop μ-loop)
+    → c .sample-of .result .0 < c .before .before .before .before .before .before .before .before .before .args .shape .n
+below c =
+    let entry = c .before .before .before .before .before .before .before .before .before in
+    let e = row-below (entry .pre .1) (entry .args .feature .0) (entry .pre .0) (c .before .before .loop .k) (c .before .loop-test .taken) in
+    let q = c .sample-of .ensures in
+    omega arith
 
 mul-start : tie.Need-mul-start Inv-loop μ-loop
 mul-start c = let e = c .before .before .before .before .pre .1 .columns in omega arith
@@ -49,10 +51,12 @@ cast-end : tie.Need-cast-end Inv-loop μ-loop
 cast-end c = omega (arith, c .shared-slice-known6 .given (c .before .before .before .before .before .before .args .feature .0 + 1))
 
 sub-many : tie.Need-sub-many Inv-loop μ-loop
-sub-many c = c .before .before .before .before .before .before .pre .1 .rising .up _ (c .before .before .before .before .before .before .pre .0)
+sub-many c = let entry = c .before .before .before .before .before .before in entry .pre .1 .rising .up _ (entry .pre .0)
 
 loop-holds : tie.Need-loop-holds Inv-loop μ-loop
-loop-holds c = (search needs, column-end (c .before .before .before .before .before .before .pre .1) _ (c .before .before .before .before .before .before .pre .0), c .before .before .before .before .before .before .pre .1 .entries, steps-none _ _)
+loop-holds c =
+    let entry = c .before .before .before .before .before .before in
+    (search needs, column-end (entry .pre .1) _ (entry .pre .0), entry .pre .1 .entries, steps-none _ _)
 
 add-sample-of : tie.Need-add-sample-of Inv-loop μ-loop
 add-sample-of c = search needs
@@ -61,14 +65,17 @@ sample-of-requires : tie.Need-sample-of-requires Inv-loop μ-loop
 sample-of-requires c κs = search needs
 
 reading-requires : tie.Need-reading-requires Inv-loop μ-loop
-reading-requires c κs = let e = below (c .before) in let q = c .sample-of .ensures in omega arith
+reading-requires c κs = omega (arith, below c)
 
 is-finite-requires : tie.Need-is-finite-requires Inv-loop μ-loop
 is-finite-requires c κs = search needs
 
 returns : tie.Need-returns Inv-loop μ-loop
 unfolding finiteAt csc
-returns c = all-broken _ _ _ (c .before .before .before .before .before .loop .inv .3) (tested (c .before) ∙ c .if1 .left) (c .before .before .before .before .loop-test .taken)
+returns c =
+    all-broken _ _ _ (c .before .before .before .before .before .loop .inv .3)
+    (rw (← c .before .before .before .sample-of .ensures, ← c .before .before .reading .ensures, ← c .before .is-finite .ensures) (c .if1 .left))
+    (c .before .before .before .before .loop-test .taken)
 
 add-k : tie.Need-add-k Inv-loop μ-loop
 add-k c = search needs
@@ -77,7 +84,13 @@ loop-less : tie.Need-loop-less Inv-loop μ-loop
 loop-less c = search needs
 
 loop-again : tie.Need-loop-again Inv-loop μ-loop
-loop-again c = (search needs, search needs, search needs, all-more _ _ (c .before .before .before .before .before .loop .inv .3) (tested (c .before) ∙ c .if1 .taken))
+loop-again c = (
+  search needs,
+  search needs,
+  search needs,
+  all-more _ _ (c .before .before .before .before .before .loop .inv .3)
+      (rw (← c .before .before .before .sample-of .ensures, ← c .before .before .reading .ensures, ← c .before .is-finite .ensures) (c .if1 .taken)),
+)
 
 returns-2 : tie.Need-returns-2 Inv-loop μ-loop
 unfolding finiteAt csc

@@ -1,9 +1,9 @@
 -- `column_finite` goes by the layout; a dense column has every sample. Assumes nothing.
 use Rattle.designs.proofs.Laws.Layouts.{held-csc, as-csc}
-use Rattle.epochs.proofs.Laws.Visits.{dense-finite}
+use Rattle.columns.proofs.Laws.Finite.{dense-finite}
 use borrow.Author.Needs.{needs}
-use Rattle.epochs.proofs.column_finite.Statement.{statement}
-use Rattle.epochs.proofs.column_finite.Tie as tie
+use Rattle.columns.proofs.column_finite.Statement.{statement}
+use Rattle.columns.proofs.column_finite.Tie as tie
 
 enum-told : tie.Need-enum-told
 enum-told c = search needs
@@ -15,10 +15,15 @@ enum-told-2 : tie.Need-enum-told-2
 enum-told-2 c = search needs
 
 csc-finite-requires : tie.Need-csc-finite-requires
-csc-finite-requires c κs = (c .before .before .before .before .before .before .pre .0, held-csc _ _ _ _ _ _ (c .enum-told2 .given .1) (c .before .before .before .before .before .before .pre .1), search needs)
+csc-finite-requires c κs =
+    let entry = c .before .before .before .before .before .before in
+    (entry .pre .0, held-csc _ _ _ _ _ _ (c .enum-told2 .given .1) (entry .pre .1), search needs)
 
 returns : tie.Need-returns
-returns c = dense-finite _ _ _ _ _ _ _ _ _ (c .before .enum-told .given .1) (c .before .before .before .before .before .before .before .pre .2) (c .all-finite .ensures)
+returns c =
+    dense-finite _ _ _ _ _ _ _ _ _ (c .before .enum-told .given .1)
+    (c .before .before .before .before .before .before .before .pre .2)
+    (c .all-finite .ensures)
 
 returns-2 : tie.Need-returns-2
 returns-2 c = rw (as-csc _ _ _ _ _ _ (c .before .enum-told2 .given .1)) (c .csc-finite .ensures)
