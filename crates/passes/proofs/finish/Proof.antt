@@ -1,48 +1,49 @@
 -- `finish`: each product by itself becomes its gradient, upward. Assumes nothing.
-use mathlib.Core.Path.{_≡_, refl}
+use mathlib.Core.Path.{_≡_, refl, _∙_}
 use Prim.Native.Nat.{_≤_, _<_, _-_, _+_}
 use mathlib.Core.List.{_++_}
 use lib.Ieee.{nan}
 use lib.ListN.{length, drop}
 use denote.Ref.{now}
-use Rattle.doubles.specs.Num.{_⊖_, _⊘_, count, at}
+use Rattle.doubles.specs.Num.{at}
 use Rattle.doubles.specs.Steps.{tab}
 use Rattle.doubles.proofs.Laws.Steps.{tab-none, tab-here, tab-more, tab-all}
 use native.Mathlib.Omega.{arith}
-use Rattle.designs.proofs.Laws.Layouts.{counted}
+use Rattle.designs.specs.Design.{gradientFrom}
 use borrow.Author.Needs.{needs}
 use Rattle.passes.proofs.finish.Statement.{statement}
 use Rattle.passes.proofs.finish.Tie as tie
 
 abbrev Inv-loop : tie.InvT-loop
-Inv-loop n prepared from buf₀ m j₀ buf j = (j ≤ length buf₀) × (length buf ≡ length buf₀) × (buf ≡ tab (λ k. (at buf₀ k ⊖ at prepared (from + k)) ⊘ count n) j ++ drop j buf₀)
+Inv-loop n prepared from buf₀ j₀ buf j = (j ≤ length buf₀) × (length buf ≡ length buf₀)
+    × (buf ≡ tab (λ k. gradientFrom (at buf₀ k) (at prepared (from + k)) n) j ++ drop j buf₀)
 
 abbrev μ-loop : tie.MeasureT-loop
-μ-loop n prepared from buf₀ m j₀ buf j = length buf₀ - j
-
-int-to-float-m : tie.Need-int-to-float-m Inv-loop μ-loop
-int-to-float-m c = search (needs, counted)
+μ-loop n prepared from buf₀ j₀ buf j = length buf₀ - j
 
 loop-holds : tie.Need-loop-holds Inv-loop μ-loop
 loop-holds c = (search needs, search needs, tab-none _ _)
 
+mul-gradient-from : tie.Need-mul-gradient-from Inv-loop μ-loop
+mul-gradient-from c = search needs
+
+slice-read-gradient-from : tie.Need-slice-read-gradient-from Inv-loop μ-loop
+slice-read-gradient-from c = search needs
+
+add-gradient-from : tie.Need-add-gradient-from Inv-loop μ-loop
+add-gradient-from c = search needs
+
+mul-gradient-from-2 : tie.Need-mul-gradient-from-2 Inv-loop μ-loop
+mul-gradient-from-2 c = search needs
+
+shared-slice-read-gradient-from : tie.Need-shared-slice-read-gradient-from Inv-loop μ-loop
+shared-slice-read-gradient-from c = search needs
+
+gradient-from-requires : tie.Need-gradient-from-requires Inv-loop μ-loop
+gradient-from-requires c κs = search needs
+
 mul-buf : tie.Need-mul-buf Inv-loop μ-loop
 mul-buf c = search needs
-
-slice-read-buf : tie.Need-slice-read-buf Inv-loop μ-loop
-slice-read-buf c = search needs
-
-add-buf : tie.Need-add-buf Inv-loop μ-loop
-add-buf c = search needs
-
-mul-buf-2 : tie.Need-mul-buf-2 Inv-loop μ-loop
-mul-buf-2 c = search needs
-
-shared-slice-read-buf : tie.Need-shared-slice-read-buf Inv-loop μ-loop
-shared-slice-read-buf c = search needs
-
-mul-buf-3 : tie.Need-mul-buf-3 Inv-loop μ-loop
-mul-buf-3 c = search needs
 
 slice-write-buf : tie.Need-slice-write-buf Inv-loop μ-loop
 slice-write-buf c = search needs
@@ -54,7 +55,10 @@ loop-less : tie.Need-loop-less Inv-loop μ-loop
 loop-less c = search needs
 
 loop-again : tie.Need-loop-again Inv-loop μ-loop
-loop-again c = let a = c .before .before .before in let h : a .loop .j < length (now (a .before .before .args .buf)) = omega arith in (search needs, search needs, rw (tab-here _ _ _ _ (a .loop .inv .2) nan h) (tab-more _ _ _ _ (a .loop .inv .2) _ h refl))
+loop-again c =
+    let a = c .before .before .before .before in
+    let h : a .loop .j < length (now (a .before .before .before .args .buf)) = omega arith in
+    (search needs, search needs, tab-more _ _ _ _ (a .loop .inv .2) _ h (c .gradient-from .ensures ∙ rw (tab-here _ _ _ _ (a .loop .inv .2) nan h)))
 
 same-length : tie.Need-same-length Inv-loop μ-loop
 same-length c = search needs
@@ -68,14 +72,14 @@ finish-spec =
     (tie.spec
     Inv-loop
     μ-loop
-    int-to-float-m
     loop-holds
+    mul-gradient-from
+    slice-read-gradient-from
+    add-gradient-from
+    mul-gradient-from-2
+    shared-slice-read-gradient-from
+    gradient-from-requires
     mul-buf
-    slice-read-buf
-    add-buf
-    mul-buf-2
-    shared-slice-read-buf
-    mul-buf-3
     slice-write-buf
     add-j
     loop-less

@@ -1,6 +1,7 @@
--- `gradient_j`: the product of the column, less its entry of X'y, over n. Assumes nothing.
+-- `gradient_j`: the product of the column, and the gradient from it. Assumes nothing.
+use mathlib.Core.Path.{_∙_}
 use Rattle.designs.specs.Design.{gradient}
-use Rattle.designs.proofs.Laws.Layouts.{samples, counted}
+use Rattle.designs.proofs.Laws.Layouts.{samples}
 use borrow.Author.Needs.{needs}
 use Rattle.quadratic.proofs.gradient_j.Statement.{statement}
 use Rattle.quadratic.proofs.gradient_j.Tie as tie
@@ -17,14 +18,14 @@ mul-q c = search needs
 shared-slice-read-q : tie.Need-shared-slice-read-q
 shared-slice-read-q c = search needs
 
-int-to-float-result : tie.Need-int-to-float-result
-int-to-float-result c = counted _ (c .before .before .before .before .before .before .before .before .before .before .pre .1)
+gradient-from-requires : tie.Need-gradient-from-requires
+gradient-from-requires c κs = search needs
 
 returns : tie.Need-returns
 unfolding gradient
-returns c = rw (c .before .before .before .before .column-dot .ensures, samples)
+returns c = c .gradient-from .ensures ∙ rw (c .before .before .before .before .column-dot .ensures, samples)
 
 pub gradient-j-spec : {M : Type 1} → statement M
 gradient-j-spec =
     tie.close
-    (tie.spec column-dot-requires add-q mul-q shared-slice-read-q int-to-float-result returns)
+    (tie.spec column-dot-requires add-q mul-q shared-slice-read-q gradient-from-requires returns)
