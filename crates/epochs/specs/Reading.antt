@@ -3,7 +3,7 @@ use mathlib.Core.Bool.{Bool, true, false}
 use mathlib.Core.List.{List}
 use Prim.Native.Nat.{ℕ, _+_}
 use lib.Ieee.{Float}
-use Rattle.doubles.specs.Num.{_⊖_, _⊘_, at, count, finite, pick, _and_}
+use Rattle.doubles.specs.Num.{at, finite, pick, _and_}
 use Rattle.doubles.specs.Steps.{Stage, going, bad, all, largest, tab}
 use Rattle.doubles.specs.Buffer.{put}
 use Rattle.leaves.specs.Penalty.{violation}
@@ -34,20 +34,17 @@ visitOf false w fit = bad
 unfoldable pub violationAt : Penalty → Float → Float → Stage Float
 violationAt penalty w g = pick (finite g and finite (violation penalty w g)) (going (violation penalty w g)) bad
 
--- ---- of all features, where the scratch has X'y from place p on and the products of columns and fit from 2p on
-abbrev pub gradientThere : ℕ → ℕ → List Float → ℕ → Float
-gradientThere n p s j = (at s (p + p + j) ⊖ at s (p + j)) ⊘ count n
+-- ---- of all features, where the scratch has their gradients from place 2p on
+abbrev pub violationThere : Penalty → List Float → ℕ → List Float → ℕ → Float
+violationThere penalty w p s j = violation penalty (at w j) (at s (p + p + j))
 
-abbrev pub violationThere : Penalty → List Float → ℕ → ℕ → List Float → ℕ → Float
-violationThere penalty w n p s j = violation penalty (at w j) (gradientThere n p s j)
+abbrev pub knownThere : Penalty → List Float → ℕ → List Float → ℕ → Bool
+knownThere penalty w p s j = finite (at s (p + p + j)) and finite (violationThere penalty w p s j)
 
-abbrev pub knownThere : Penalty → List Float → ℕ → ℕ → List Float → ℕ → Bool
-knownThere penalty w n p s j = finite (gradientThere n p s j) and finite (violationThere penalty w n p s j)
-
-unfoldable pub finished : Penalty → List Float → ℕ → ℕ → List Float → Stage Measured
-finished penalty w n p s =
-    pick (all (knownThere penalty w n p s) p)
-    (going (record { largest = largest (violationThere penalty w n p s) p; scratch = put s (p + p) (tab (violationThere penalty w n p s) p) }))
+unfoldable pub finished : Penalty → List Float → ℕ → List Float → Stage Measured
+finished penalty w p s =
+    pick (all (knownThere penalty w p s) p)
+    (going (record { largest = largest (violationThere penalty w p s) p; scratch = put s (p + p) (tab (violationThere penalty w p s) p) }))
     bad
 
 unfoldable pub measured : Task → List Float → List Float → List Float → Stage Measured

@@ -2,25 +2,25 @@
 use mathlib.Core.Path.{_≡_, sym, ap, _∙_}
 use mathlib.Core.Bool.{Bool, true, false}
 use mathlib.Core.List.{List}
-use Prim.Native.Nat.{ℕ, _+_, _-_, _≤_, _<_}
+use Prim.Native.Nat.{ℕ, _+_, _≤_, _<_}
 use native.Mathlib.Omega.{arith}
 use lib.Ieee.{Float, nan, inf, neg, div, ofBits}
 use lib.ListN.{length, take}
 use lib.Seq.{getD-take}
-use borrow.Rule.Slice.PartMut.{putMid}
-use Rattle.doubles.specs.Num.{_⊖_, _⊘_, #0, #1, at, finite, larger, pick, _and_}
+use Rattle.doubles.specs.Num.{_⊘_, #0, #1, at, finite, larger, pick, _and_}
 use Rattle.doubles.specs.Steps.{Stage, going, bad, all, largest, tab}
 use Rattle.doubles.specs.Buffer.{put}
-use Rattle.doubles.proofs.Laws.Steps.{steps-none, steps-turn, steps-all, steps-same, length-tab, getD-tab, tab-same, all-more, all-broken, picked, not-picked}
-use Rattle.doubles.proofs.Laws.Buffer.{put-here, put-before, put-in, put-put, put-back, put-all}
+use Rattle.doubles.proofs.Laws.Steps.{steps-none, steps-turn, steps-all, steps-same, length-tab, tab-same, all-more, all-broken, picked, not-picked}
+use Rattle.doubles.proofs.Laws.Buffer.{put-here, put-in, put-put, put-all}
 use Rattle.doubles.proofs.Laws.Parts.{part-before}
 use Rattle.leaves.specs.Penalty.{violation}
 use Rattle.leaves.specs.declared.penalties.separable.Penalty.{Penalty}
-use Rattle.designs.specs.Design.{Design, design, dot, dots, gradient}
+use Rattle.designs.specs.Design.{Design, design, gradient, fullGradient}
 use Rattle.designs.specs.declared.Shape.{Shape}
-use Rattle.designs.proofs.Laws.Layouts.{samples, features}
+use Rattle.designs.proofs.Laws.Layouts.{features}
+use Rattle.designs.proofs.Laws.Gradients.{length-gradients, gradients-at}
 use Rattle.runs.specs.Epoch.{Task, task, gradientOf, violationOf, known, allKnown, violations, worst}
-use Rattle.epochs.specs.Reading.{worstOf, measuredOf, violationAt, gradientThere, violationThere, knownThere, finished, measured}
+use Rattle.epochs.specs.Reading.{worstOf, measuredOf, violationAt, violationThere, knownThere, finished, measured}
 use Rattle.epochs.specs.declared.Worst.{Worst}
 use Rattle.epochs.specs.declared.Worst.the-variants.{Bad, Is}
 
@@ -66,31 +66,36 @@ module _ {penalty : Penalty} {w g : ℕ → Float} {i : ℕ} {l : Float} (p : Pa
     pub passed-value : {v : Float} → r ≡ Is v → v ≡ violation penalty (w i) (g i)
     passed-value {v} q = arm-is penalty (w i) (g i) r e v q .1
 
--- ---- a scratch in which the first j of the places from 2p on are written: what the next gradient is made of is as it was
-pub gradient-there : (penalty : Penalty) (a m : Float) (f : ℕ → Float) (l s : List Float) (p j : ℕ) (x : Stage Float)
-    → s ≡ put l (p + p) (tab f j) → p + p + p ≤ length l → j < p
-    → x ≡ violationAt penalty a ((at s (p + p + j) ⊖ at s (p + j)) ⊘ m) → x ≡ violationAt penalty a ((at l (p + p + j) ⊖ at l (p + j)) ⊘ m)
-gradient-there penalty a m f l s p j x e h k q =
+-- the answer for a feature of a working set, which is k, of its weight a and its gradient g
+pub of-feature : (T : Task) (w fit : List Float) (j k : ℕ) (a g : Float) (x : Stage Float) → j ≡ k → a ≡ at w j
+    → g ≡ gradient (T .X) j fit (at (T .prepared) (T .p + j)) → x ≡ violationAt (T .penalty) a g → x ≡ violationAt (T .penalty) (at w k) (gradientOf T fit k)
+unfolding gradientOf
+of-feature T w fit j k a g x ej ea eg e = e ∙ rw (ea, eg, ej)
+
+-- ---- a scratch in which the first j of the places from 2p on are written: the next holds its gradient still
+pub gradient-here : (penalty : Penalty) (w : List Float) (a : Float) (f : ℕ → Float) (l s : List Float) (p j : ℕ) (x : Stage Float) → a ≡ at w j
+    → s ≡ put l (p + p) (tab f j) → p + p + p ≤ length l → j < p → x ≡ violationAt penalty a (at s (p + p + j))
+    → x ≡ violationAt penalty (at w j) (at l (p + p + j))
+gradient-here penalty w a f l s p j x ea e h k q =
     let t : at s (p + p + j) ≡ at l (p + p + j) = rw e (put-here f l (p + p) j nan (omega arith)) in
-    let u : at s (p + j) ≡ at l (p + j) = rw e (put-before l (p + p) (tab f j) (p + j) nan (omega arith) (omega arith)) in
-    q ∙ rw (t, u)
+    q ∙ rw (ea, t)
 
 -- how the loop over it ends; constants and X'y stay
-module _ (penalty : Penalty) (w l : List Float) (n p : ℕ) (long : p + p + p ≤ length l) {i : ℕ} {x : Float} (h : Passed penalty (at w) (gradientThere n p l) i x)
-    (s : List Float) (e : s ≡ put l (p + p) (tab (violationThere penalty w n p l) i)) where
+module _ (penalty : Penalty) (w l : List Float) (p : ℕ) (long : p + p + p ≤ length l) {i : ℕ} {x : Float}
+    (h : Passed penalty (at w) (λ k. at l (p + p + k)) i x) (s : List Float) (e : s ≡ put l (p + p) (tab (violationThere penalty w p l) i)) where
   front-kept : take (p + p) s ≡ take (p + p) l
-  front-kept = rw e (part-before l (p + p) 0 (p + p) (tab (violationThere penalty w n p l) i) (omega arith) (omega arith))
+  front-kept = rw e (part-before l (p + p) 0 (p + p) (tab (violationThere penalty w p l) i) (omega arith) (omega arith))
 
-  pub finished-bad : {r : Worst} → worstOf r ≡ violationAt penalty (at w i) (gradientThere n p l i) → r ≡ Bad → i < p
-      → (bad ≡ finished penalty w n p l) × (take (p + p) s ≡ take (p + p) l)
+  pub finished-bad : {r : Worst} → worstOf r ≡ violationAt penalty (at w i) (at l (p + p + i)) → r ≡ Bad → i < p
+      → (bad ≡ finished penalty w p l) × (take (p + p) s ≡ take (p + p) l)
   unfolding finished
   finished-bad a q k = (passed-bad h a _ p q k, front-kept)
 
-  pub finished-all : i ≤ p → p ≤ i → (going (record { largest = x; scratch = s }) ≡ finished penalty w n p l) × (take (p + p) s ≡ take (p + p) l)
+  pub finished-all : i ≤ p → p ≤ i → (going (record { largest = x; scratch = s }) ≡ finished penalty w p l) × (take (p + p) s ≡ take (p + p) l)
   unfolding finished
   finished-all a b = (passed-all h (λ x. record { largest = x; scratch = s }) p a b ∙ rw (put-all _ _ _ _ _ _ e a b), front-kept)
 
--- ---- where the places from 2p on hold the products of columns and fit, what is finished is what the definition measures
+-- ---- where the places from 2p on hold the gradients of all features, what is finished is what the definition measures
 module _ (s : Shape) (starts rows : List ℕ) (values : List Float) (penalty : Penalty) (w fit l : List Float)
     (long : s .p + s .p + s .p ≤ length l) where
   abbrev X : Design
@@ -99,60 +104,56 @@ module _ (s : Shape) (starts rows : List ℕ) (values : List Float) (penalty : P
   abbrev T : Task
   T = task s starts rows values penalty (take (s .p + s .p) l)
 
+  abbrev gradients : List Float
+  gradients = fullGradient X fit (λ j. at l (s .p + j))
+
   abbrev filled : List Float
-  filled = put l (s .p + s .p) (dots X fit)
+  filled = put l (s .p + s .p) gradients
 
-  -- the same, as a part that was lent and came back
-  abbrev lent : List Float → List Float
-  lent ds = putMid (s .p + s .p) (s .p + s .p + s .p - (s .p + s .p)) l ds
+  p-features : X .p ≡ s .p
+  p-features = features (s .layout) (s .n) (s .p) starts rows values
 
-  length-dots : length (dots X fit) ≡ s .p
-  unfolding dots
-  length-dots = length-tab (λ j. dot X j fit) (X .p) ∙ features (s .layout) (s .n) (s .p) starts rows values
+  long-gradients : length gradients ≡ s .p
+  long-gradients = length-gradients X fit (λ j. at l (s .p + j)) ∙ p-features
 
-  dots-at : (j : ℕ) → j < s .p → at (dots X fit) j ≡ dot X j fit
-  unfolding dots
-  dots-at j h = getD-tab (λ j. dot X j fit) (X .p) j nan (rw (features (s .layout) (s .n) (s .p) starts rows values) h)
-
-  gradient-same : (j : ℕ) → j < s .p → gradientThere (s .n) (s .p) filled j ≡ gradientOf T fit j
-  unfolding gradientOf gradient
+  gradient-same : (j : ℕ) → j < s .p → at filled (s .p + s .p + j) ≡ gradientOf T fit j
+  unfolding gradientOf
   gradient-same j h =
       let p = s .p in
-      let n = length-dots in
-      let a : at filled (p + p + j) ≡ dot X j fit = put-in l (p + p) (dots X fit) j nan (omega arith) (omega arith) ∙ dots-at j h in
-      let b : at filled (p + j) ≡ at (take (p + p) l) (p + j) =
-      put-before l (p + p) (dots X fit) (p + j) nan (omega arith) (omega arith) ∙ sym (getD-take (p + p) l (p + j) nan (omega arith)) in
-      rw (a, b, samples (s .layout) (s .n) (s .p) starts rows values)
+      let n = long-gradients in
+      put-in l (p + p) gradients j nan (omega arith) (omega arith)
+      ∙ gradients-at X fit (λ j. at l (p + j)) j (rw p-features h)
+      ∙ ap (gradient X j fit) (sym (getD-take (p + p) l (p + j) nan (omega arith)))
 
-  violation-same : (j : ℕ) → j < s .p → violationThere penalty w (s .n) (s .p) filled j ≡ violationOf T w fit j
+  violation-same : (j : ℕ) → j < s .p → violationThere penalty w (s .p) filled j ≡ violationOf T w fit j
   unfolding violationOf
   violation-same j h = ap (violation penalty (at w j)) (gradient-same j h)
 
-  known-same : (j : ℕ) → j < s .p → knownThere penalty w (s .n) (s .p) filled j ≡ known T w fit j
+  known-same : (j : ℕ) → j < s .p → knownThere penalty w (s .p) filled j ≡ known T w fit j
   unfolding known violationOf
   known-same j h = rw (gradient-same j h)
 
-  finished-measured : finished penalty w (s .n) (s .p) filled ≡ measured T w fit l
+  finished-measured : finished penalty w (s .p) filled ≡ measured T w fit l
   unfolding finished measured allKnown worst violations
   finished-measured =
       let p = s .p in
-      let n = length-dots in
-      let f = violationThere penalty w (s .n) p filled in
-      let a : all (knownThere penalty w (s .n) p filled) p ≡ all (known T w fit) p =
-      steps-same (λ i b. b and knownThere penalty w (s .n) p filled i) (λ i b. b and known T w fit i) p true (λ k h b. ap (λ (z : Bool). b and z) (known-same k h)) in
+      let n = long-gradients in
+      let f = violationThere penalty w p filled in
+      let a : all (knownThere penalty w p filled) p ≡ all (known T w fit) p =
+      steps-same (λ i b. b and knownThere penalty w p filled i) (λ i b. b and known T w fit i) p true (λ k h b. ap (λ (z : Bool). b and z) (known-same k h)) in
       let v : largest f p ≡ largest (violationOf T w fit) p =
       steps-same (λ i v. larger v (f i)) (λ i v. larger v (violationOf T w fit i)) p (inf true) (λ k h b. ap (larger b) (violation-same k h)) in
       let t : tab f p ≡ tab (violationOf T w fit) p = tab-same f (violationOf T w fit) p violation-same in
       let q : put filled (p + p) (tab (violationOf T w fit) p) ≡ put l (p + p) (tab (violationOf T w fit) p) =
-      put-put l (p + p) (dots X fit) (tab (violationOf T w fit) p) (omega arith) (n ∙ sym (length-tab (violationOf T w fit) p)) in
+      put-put l (p + p) gradients (tab (violationOf T w fit) p) (omega arith) (n ∙ sym (length-tab (violationOf T w fit) p)) in
       rw (a, v, t, q)
 
-  pub measured-here : (ds m : List Float) (r : Worst) → ds ≡ dots X fit → (measuredOf r m ≡ finished penalty w (s .n) (s .p) (lent ds)) × (take (s .p + s .p) m ≡ take (s .p + s .p) (lent ds))
+  pub measured-here : (b m : List Float) (r : Worst) → b ≡ filled
+      → (measuredOf r m ≡ finished penalty w (s .p) b) × (take (s .p + s .p) m ≡ take (s .p + s .p) b)
       → (measuredOf r m ≡ measured T w fit l) × (take (s .p + s .p) m ≡ take (s .p + s .p) l)
-  measured-here ds m r e q =
+  measured-here b m r e q =
       let g = s .p + s .p in
-      let k : g + s .p - g ≡ s .p = omega arith in
-      let b : lent ds ≡ filled = put-back l g (s .p) (g + s .p - g) ds k (ap length e ∙ length-dots) ∙ rw e in (
-        q .0 ∙ ap (finished penalty w (s .n) (s .p)) b ∙ finished-measured,
-        q .1 ∙ ap (take g) b ∙ part-before l g 0 g (dots X fit) (omega arith) (omega arith),
+      let n = long-gradients in (
+        q .0 ∙ ap (finished penalty w (s .p)) e ∙ finished-measured,
+        q .1 ∙ ap (take g) e ∙ part-before l g 0 g gradients (omega arith) (omega arith),
       )

@@ -7,34 +7,41 @@ use denote.Ref.{now}
 use native.Mathlib.Omega.{arith}
 use Rattle.doubles.specs.Steps.{going, upto}
 use Rattle.doubles.proofs.Laws.Steps.{steps-none, steps-all}
-use Rattle.runs.specs.Epoch.{task, visit, visits}
+use Rattle.runs.specs.Epoch.{Point, task, visit, visits}
 use Rattle.epochs.proofs.Laws.Visits.{visits-more, visits-broken}
 use Rattle.epochs.proofs.cd_epoch.Statement.{statement}
 use Rattle.epochs.proofs.cd_epoch.Tie as tie
 
 abbrev Inv-loop : tie.InvT-loop
-Inv-loop shape starts rows values penalty prepared ws w₀ fit₀ i₀ w fit i = (i ≤ length ws) × (length w ≡ shape .p) × (length fit ≡ shape .n) × (going (record { weights = w; fit = fit }) ≡ upto (λ k. visit (task shape starts rows values penalty prepared) (getD ws k 0)) i (record { weights = w₀; fit = fit₀ }))
+Inv-loop shape starts rows values penalty prepared ws w₀ fit₀ i₀ w fit i = (i ≤ length ws) × (length w ≡ shape .p) × (length fit ≡ shape .n)
+    × (going (record { weights = w; fit = fit })
+    ≡ upto (λ k. visit (task shape starts rows values penalty prepared) (getD ws k 0)) i (record { weights = w₀; fit = fit₀ }))
 
 abbrev μ-loop : tie.MeasureT-loop
 μ-loop shape starts rows values penalty prepared ws w₀ fit₀ i₀ w fit i = length ws - i
 
-below : (c : tie.In-loop Inv-loop μ-loop) → getD (now (c .before .before .before .before .before .before .before .before .before .args .ws)) (c .before .loop .i) 0 < c .before .before .before .before .before .before .before .before .before .args .shape .p
-below c = c .before .before .before .before .before .before .before .before .before .pre .0 _ (c .loop-test .taken)
+below : (c : tie.After-feature-of Inv-loop μ-loop)
+    → c .feature-of .result .0 < c .before .before .before .before .before .before .before .before .before .before .args .shape .p
+below c =
+    let e = c .before .before .before .before .before .before .before .before .before .before .pre .0 _ (c .before .loop-test .taken) in
+    let q = c .feature-of .ensures in
+    omega arith
 
 loop-holds : tie.Need-loop-holds Inv-loop μ-loop
 loop-holds c = (search needs, search needs, search needs, steps-none _ _)
 
-mul-j : tie.Need-mul-j Inv-loop μ-loop
-mul-j c = search needs
-
-shared-slice-read-j : tie.Need-shared-slice-read-j Inv-loop μ-loop
-shared-slice-read-j c = search needs
-
-cast-j : tie.Need-cast-j Inv-loop μ-loop
-cast-j c = omega (arith, below (c .before))
+feature-of-requires : tie.Need-feature-of-requires Inv-loop μ-loop
+feature-of-requires c κs = search needs
 
 visit-requires : tie.Need-visit-requires Inv-loop μ-loop
-visit-requires c κs = (omega (arith, below (c .before .before .before)), c .before .before .before .before .before .before .before .before .before .before .before .before .pre .1, search needs, search needs, c .before .before .before .before .before .before .before .before .before .before .before .before .pre .4, search needs)
+visit-requires c κs = (
+  omega (arith, below (c .before .before)),
+  c .before .before .before .before .before .before .before .before .before .before .before .before .pre .1,
+  search needs,
+  search needs,
+  c .before .before .before .before .before .before .before .before .before .before .before .before .pre .4,
+  search needs,
+)
 
 same-length : tie.Need-same-length Inv-loop μ-loop
 same-length c = search needs
@@ -43,7 +50,15 @@ same-length-2 : tie.Need-same-length-2 Inv-loop μ-loop
 same-length-2 c = search needs
 
 returns : tie.Need-returns Inv-loop μ-loop
-returns c = visits-broken (task (c .before .before .before .before .before .before .before .before .before .before .before .before .before .before .before .before .before .before .args .shape) (now (c .before .before .before .before .before .before .before .before .before .before .before .before .before .before .before .before .before .before .args .starts)) (now (c .before .before .before .before .before .before .before .before .before .before .before .before .before .before .before .before .before .before .args .rows)) (now (c .before .before .before .before .before .before .before .before .before .before .before .before .before .before .before .before .before .before .args .values)) (c .before .before .before .before .before .before .before .before .before .before .before .before .before .before .before .before .before .before .args .penalty) (now (c .before .before .before .before .before .before .before .before .before .before .before .before .before .before .before .before .before .before .args .prepared))) (now (c .before .before .before .before .before .before .before .before .before .before .before .before .before .before .before .before .before .before .args .ws)) (record { weights = now (c .before .before .before .before .before .before .before .before .before .before .before .before .before .before .before .before .before .before .args .w); fit = now (c .before .before .before .before .before .before .before .before .before .before .before .before .before .before .before .before .before .before .args .fit) }) _ _ _ _ _ (c .before .before .before .before .before .before .before .before .before .before .loop .inv .3) (c .before .before .before .before .before .visit .ensures) (c .if1 .left) (c .before .before .before .before .before .before .before .before .before .loop-test .taken)
+returns c =
+    let here = c .before .before .before .before .before .before .before .before in
+    let a = here .before .before .before .before .before .before .before .before .before .before .args in
+    let T = task (a .shape) (now (a .starts)) (now (a .rows)) (now (a .values)) (a .penalty) (now (a .prepared)) in
+    let start : Point = record { weights = now (a .w); fit = now (a .fit) } in
+    visits-broken T (now (a .ws)) start _ _ _ _ _ (c .before .before .before .before .before .before .before .before .before .before .loop .inv .3) _
+    (c .before .before .before .before .before .before .before .before .feature-of .ensures)
+    (c .before .before .before .before .before .visit .ensures) (c .if1 .left)
+    (c .before .before .before .before .before .before .before .before .before .loop-test .taken)
 
 add-i : tie.Need-add-i Inv-loop μ-loop
 add-i c = search needs
@@ -52,7 +67,16 @@ loop-less : tie.Need-loop-less Inv-loop μ-loop
 loop-less c = search needs
 
 loop-again : tie.Need-loop-again Inv-loop μ-loop
-loop-again c = (search needs, search needs, search needs, visits-more (task (c .before .before .before .before .before .before .before .before .before .before .before .before .before .before .before .before .before .before .args .shape) (now (c .before .before .before .before .before .before .before .before .before .before .before .before .before .before .before .before .before .before .args .starts)) (now (c .before .before .before .before .before .before .before .before .before .before .before .before .before .before .before .before .before .before .args .rows)) (now (c .before .before .before .before .before .before .before .before .before .before .before .before .before .before .before .before .before .before .args .values)) (c .before .before .before .before .before .before .before .before .before .before .before .before .before .before .before .before .before .before .args .penalty) (now (c .before .before .before .before .before .before .before .before .before .before .before .before .before .before .before .before .before .before .args .prepared))) (now (c .before .before .before .before .before .before .before .before .before .before .before .before .before .before .before .before .before .before .args .ws)) (record { weights = now (c .before .before .before .before .before .before .before .before .before .before .before .before .before .before .before .before .before .before .args .w); fit = now (c .before .before .before .before .before .before .before .before .before .before .before .before .before .before .before .before .before .before .args .fit) }) _ _ _ _ _ (c .before .before .before .before .before .before .before .before .before .before .loop .inv .3) (c .before .before .before .before .before .visit .ensures) (c .if1 .taken))
+loop-again c =
+    let here = c .before .before .before .before .before .before .before .before in
+    let a = here .before .before .before .before .before .before .before .before .before .before .args in
+    let T = task (a .shape) (now (a .starts)) (now (a .rows)) (now (a .values)) (a .penalty) (now (a .prepared)) in
+    let start : Point = record { weights = now (a .w); fit = now (a .fit) } in
+    let more =
+    visits-more T (now (a .ws)) start _ _ _ _ _ (c .before .before .before .before .before .before .before .before .before .before .loop .inv .3) _
+    (c .before .before .before .before .before .before .before .before .feature-of .ensures)
+    (c .before .before .before .before .before .visit .ensures) (c .if1 .taken) in
+    (search needs, search needs, search needs, more)
 
 same-length-3 : tie.Need-same-length-3 Inv-loop μ-loop
 same-length-3 c = search needs
@@ -71,9 +95,7 @@ cd-epoch-spec =
     Inv-loop
     μ-loop
     loop-holds
-    mul-j
-    shared-slice-read-j
-    cast-j
+    feature-of-requires
     visit-requires
     same-length
     same-length-2

@@ -7,58 +7,40 @@ use lib.Ieee.{nan}
 use lib.ListN.{length}
 use denote.Ref.{now}
 use native.Mathlib.Omega.{arith}
-use Rattle.doubles.specs.Num.{_⊖_, _⊘_, at, count}
+use Rattle.doubles.specs.Num.{at}
 use Rattle.doubles.specs.Steps.{tab}
 use Rattle.doubles.specs.Buffer.{put}
 use Rattle.doubles.proofs.Laws.Buffer.{put-none, put-more}
 use Rattle.leaves.specs.Penalty.{violation}
-use Rattle.designs.proofs.Laws.Layouts.{counted}
-use Rattle.epochs.specs.Reading.{worstOf, violationAt}
-use Rattle.epochs.proofs.Laws.Violations.{Passed, passed-none, passed-more, passed-value, gradient-there, finished-bad, finished-all}
+use Rattle.epochs.proofs.Laws.Violations.{Passed, passed-none, passed-more, passed-value, gradient-here, finished-bad, finished-all}
 use Rattle.epochs.proofs.finish_violations.Statement.{statement}
 use Rattle.epochs.proofs.finish_violations.Tie as tie
 
 abbrev Inv-loop : tie.InvT-loop
-Inv-loop penalty w scratch₀ p n largest₀ j₀ scratch largest j = (j ≤ p) × (p ≤ length w) × (p + p + p ≤ length scratch₀) × (length scratch ≡ length scratch₀) × (scratch ≡ put scratch₀ (p + p) (tab (λ k. violation penalty (at w k) ((at scratch₀ (p + p + k) ⊖ at scratch₀ (p + k)) ⊘ n)) j)) × Passed penalty (at w) (λ k. (at scratch₀ (p + p + k) ⊖ at scratch₀ (p + k)) ⊘ n) j largest
+Inv-loop p penalty w scratch₀ largest₀ j₀ scratch largest j = (j ≤ p) × (length scratch ≡ length scratch₀)
+    × (scratch ≡ put scratch₀ (p + p) (tab (λ k. violation penalty (at w k) (at scratch₀ (p + p + k))) j))
+    × Passed penalty (at w) (λ k. at scratch₀ (p + p + k)) j largest
 
 abbrev μ-loop : tie.MeasureT-loop
-μ-loop penalty w scratch₀ p n largest₀ j₀ scratch largest j = p - j
-
-there : (c : tie.After-violation-at Inv-loop μ-loop) → worstOf (c .violation-at .result) ≡ violationAt (c .before .before .before .before .before .before .before .before .before .args .penalty) (at (now (c .before .before .before .before .before .before .before .before .before .args .w)) (c .before .before .before .before .before .loop .j)) ((at (now (c .before .before .before .before .before .before .before .before .before .args .scratch)) (c .before .before .before .before .before .before .before .before .before .args .shape .p + c .before .before .before .before .before .before .before .before .before .args .shape .p + c .before .before .before .before .before .loop .j) ⊖ at (now (c .before .before .before .before .before .before .before .before .before .args .scratch)) (c .before .before .before .before .before .before .before .before .before .args .shape .p + c .before .before .before .before .before .loop .j)) ⊘ count (c .before .before .before .before .before .before .before .before .before .args .shape .n))
-there c = gradient-there _ _ _ _ _ _ _ _ _ (c .before .before .before .before .before .loop .inv .4) (c .before .before .before .before .before .loop .inv .2) (c .before .before .before .before .loop-test .taken) (c .violation-at .ensures)
-
-int-to-float-n : tie.Need-int-to-float-n Inv-loop μ-loop
-int-to-float-n c = counted _ (omega arith)
+μ-loop p penalty w scratch₀ largest₀ j₀ scratch largest j = p - j
 
 loop-holds : tie.Need-loop-holds Inv-loop μ-loop
-loop-holds c = (search needs, search needs, search needs, search needs, put-none _ _ _, passed-none)
+loop-holds c = (search needs, search needs, put-none _ _ _, passed-none)
 
-add-g : tie.Need-add-g Inv-loop μ-loop
-add-g c = search needs
+weight-requires : tie.Need-weight-requires Inv-loop μ-loop
+weight-requires c κs = search needs
 
-add-g-2 : tie.Need-add-g-2 Inv-loop μ-loop
-add-g-2 c = search needs
+add-violation-at : tie.Need-add-violation-at Inv-loop μ-loop
+add-violation-at c = search needs
 
-mul-g : tie.Need-mul-g Inv-loop μ-loop
-mul-g c = search needs
-
-slice-read-g : tie.Need-slice-read-g Inv-loop μ-loop
-slice-read-g c = search needs
-
-add-g-3 : tie.Need-add-g-3 Inv-loop μ-loop
-add-g-3 c = search needs
-
-mul-g-2 : tie.Need-mul-g-2 Inv-loop μ-loop
-mul-g-2 c = search needs
-
-slice-read-g-2 : tie.Need-slice-read-g-2 Inv-loop μ-loop
-slice-read-g-2 c = search needs
+add-violation-at-2 : tie.Need-add-violation-at-2 Inv-loop μ-loop
+add-violation-at-2 c = search needs
 
 mul-violation-at : tie.Need-mul-violation-at Inv-loop μ-loop
 mul-violation-at c = search needs
 
-shared-slice-read-violation-at : tie.Need-shared-slice-read-violation-at Inv-loop μ-loop
-shared-slice-read-violation-at c = search needs
+slice-read-violation-at : tie.Need-slice-read-violation-at Inv-loop μ-loop
+slice-read-violation-at c = search needs
 
 violation-at-requires : tie.Need-violation-at-requires Inv-loop μ-loop
 violation-at-requires c κs = search needs
@@ -70,7 +52,15 @@ same-length : tie.Need-same-length Inv-loop μ-loop
 same-length c = search needs
 
 returns : tie.Need-returns Inv-loop μ-loop
-returns c = finished-bad _ (now (c .before .before .before .before .before .before .before .before .before .before .before .args .w)) (now (c .before .before .before .before .before .before .before .before .before .before .before .args .scratch)) _ _ (c .before .before .before .before .before .before .before .loop .inv .2) (c .before .before .before .before .before .before .before .loop .inv .5) _ (c .before .before .before .before .before .before .before .loop .inv .4) (there (c .before .before)) (c .enum-told .given .1) (c .before .before .before .before .before .before .loop-test .taken)
+returns c =
+    let entry = c .before .before .before .before .before .before .before .before .before in
+    let passed = c .before .before .before .before .before .before .loop .inv in
+    let long = entry .pre .2 in
+    let w = now (entry .args .w) in
+    let there = gradient-here _ w _ _ _ _ _ _ _ (c .before .before .before .before .weight .ensures) (passed .2) long
+    (c .before .before .before .before .before .loop-test .taken) (c .before .before .violation-at .ensures) in
+    finished-bad _ w (now (entry .args .scratch)) _ long (passed .3) _ (passed .2) there (c .enum-told .given .1)
+    (c .before .before .before .before .before .loop-test .taken)
 
 enum-known-v : tie.Need-enum-known-v Inv-loop μ-loop
 enum-known-v c = search needs
@@ -97,13 +87,28 @@ loop-less : tie.Need-loop-less Inv-loop μ-loop
 loop-less c = search needs
 
 loop-again : tie.Need-loop-again Inv-loop μ-loop
-loop-again c = (search needs, search needs, search needs, search needs, rw (c .before .before .before .before .before .before .before .before .before .loop .inv .4) (put-more _ _ _ _ nan (omega arith) _ (passed-value (c .before .before .before .before .before .before .before .before .before .loop .inv .5) (there (c .before .before .before .before)) (c .before .before .v .given .1))), passed-more (c .before .before .before .before .before .before .before .before .before .loop .inv .5) (there (c .before .before .before .before)) (c .before .before .v .given .1) (c .larger .ensures))
+loop-again c =
+    let passed = c .before .before .before .before .before .before .before .before .loop .inv in
+    let there =
+    gradient-here _ (now (c .before .before .before .before .before .before .before .before .before .before .before .args .w)) _ _ _ _ _ _ _
+    (c .before .before .before .before .before .before .weight .ensures) (passed .2)
+    (c .before .before .before .before .before .before .before .before .before .before .before .pre .2)
+    (c .before .before .before .before .before .before .before .loop-test .taken) (c .before .before .before .before .violation-at .ensures) in
+    let told = c .before .before .v .given .1 in (
+      search needs,
+      search needs,
+      rw (passed .2) (put-more _ _ _ _ nan (omega arith) _ (passed-value (passed .3) there told)),
+      passed-more (passed .3) there told (c .larger .ensures),
+    )
 
 same-length-2 : tie.Need-same-length-2 Inv-loop μ-loop
 same-length-2 c = search needs
 
 returns-2 : tie.Need-returns-2 Inv-loop μ-loop
-returns-2 c = finished-all _ (now (c .before .before .before .before .before .args .w)) (now (c .before .before .before .before .before .args .scratch)) _ _ (c .before .loop .inv .2) (c .before .loop .inv .5) _ (c .before .loop .inv .4) (c .before .loop .inv .0) (c .loop-test .left)
+returns-2 c =
+    let entry = c .before .before .before .before in
+    let passed = c .before .loop .inv in
+    finished-all _ (now (entry .args .w)) (now (entry .args .scratch)) _ (entry .pre .2) (passed .3) _ (passed .2) (passed .0) (c .loop-test .left)
 
 pub finish-violations-spec : {M : Type 1} → statement M
 finish-violations-spec =
@@ -111,17 +116,12 @@ finish-violations-spec =
     (tie.spec
     Inv-loop
     μ-loop
-    int-to-float-n
     loop-holds
-    add-g
-    add-g-2
-    mul-g
-    slice-read-g
-    add-g-3
-    mul-g-2
-    slice-read-g-2
+    weight-requires
+    add-violation-at
+    add-violation-at-2
     mul-violation-at
-    shared-slice-read-violation-at
+    slice-read-violation-at
     violation-at-requires
     enum-told
     same-length

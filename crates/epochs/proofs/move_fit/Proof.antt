@@ -17,7 +17,8 @@ same-length : tie.Need-same-length
 same-length c = search needs
 
 returns-2 : tie.Need-returns-2
-returns-2 c = moves _ _ _ _ (c .before .before .before .before .before .before .if1 .left) _ _ (c .before .before .before .before .column-update .ensures) (c .column-finite .ensures)
+returns-2 c = moves _ _ _ _ (c .before .before .before .before .before .before .if1 .left) _ _
+    (c .before .before .before .before .column-update .ensures) (c .column-finite .ensures)
 
 pub move-fit-spec : {M : Type 1} → statement M
 move-fit-spec =

@@ -69,7 +69,8 @@ loop-less c = search needs
 loop-again : tie.Need-loop-again Inv-loop μ-loop
 loop-again c =
     let a = c .before .before .before .before in
-    let v = gradient-there _ _ _ _ _ _ _ (a .loop .inv .2) (a .before .before .pre .2) (c .before .before .before .loop-test .taken) (c .gradient-from .ensures) in
+    let v = gradient-there _ _ _ _ _ _ _ (a .loop .inv .2) (a .before .before .pre .2) (c .before .before .before .loop-test .taken)
+    (c .gradient-from .ensures) in
     (search needs, search needs, rw (a .loop .inv .2) (put-more _ _ _ _ nan (omega arith) _ v))
 
 same-length : tie.Need-same-length Inv-loop μ-loop
