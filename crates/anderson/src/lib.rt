@@ -13,6 +13,9 @@ ghost use Rattle.anderson.specs.Places as places;
 use columns::all_finite;
 use columns::clear;
 use columns::extrapolated_fit;
+use columns::feature_of;
+use columns::set_weight;
+use columns::weight;
 use designs::Shape;
 use leaves::penalties::inner::value as penalty_value;
 use leaves::penalties::separable::Penalty;
@@ -133,8 +136,8 @@ fn write_candidate(kept: &[f64], shape: Kept, c: [f64; 10], ws: &[u32], w: &mut 
     clear(w);
     let mut i = 0;
     while i < ws.len() {
-        let j = ws[i] as usize;
-        w[j] = combined(kept, shape, c, i);
+        let feature = feature_of(ws, i);
+        set_weight(w, feature, combined(kept, shape, c, i));
         i += 1;
     }
 }
@@ -183,8 +186,7 @@ fn keep(ws: &[u32], w: &[f64], base: usize, kept: &mut [f64])
 {
     let mut i = 0;
     while i < ws.len() {
-        let j = ws[i] as usize;
-        kept[base + i] = w[j];
+        kept[base + i] = weight(w, feature_of(ws, i));
         i += 1;
     }
 }

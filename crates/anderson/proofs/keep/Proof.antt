@@ -1,5 +1,5 @@
 -- `keep`: the invariant is the working set's weights gathered so far, put where the row begins. Assumes nothing.
-use mathlib.Core.Path.{_≡_, refl}
+use mathlib.Core.Path.{_≡_, ap, _∙_}
 use Prim.Native.Nat.{_≤_, _<_, _-_}
 use lib.ListN.{length, getD}
 use denote.Ref.{now}
@@ -19,32 +19,27 @@ Inv-loop ws w base kept₀ i₀ kept i = (i ≤ length ws) × (length kept ≡ l
 abbrev μ-loop : tie.MeasureT-loop
 μ-loop ws w base kept₀ i₀ kept i = length ws - i
 
-below : (c : tie.In-loop Inv-loop μ-loop) → getD (now (c .before .before .args .ws)) (c .before .loop .i) 0 < length (now (c .before .before .args .w))
-below c = c .before .before .pre .0 _ (c .loop-test .taken)
+below : (c : tie.After-feature-of Inv-loop μ-loop)
+    → c .feature-of .result .0 < length (now (c .before .before .before .before .before .before .args .w))
+below c =
+    let e = c .before .before .before .before .before .before .pre .0 _ (c .before .loop-test .taken) in
+    let q = c .feature-of .ensures in
+    omega arith
 
 loop-holds : tie.Need-loop-holds Inv-loop μ-loop
 loop-holds c = (search needs, search needs, put-none _ _ _)
 
-mul-j : tie.Need-mul-j Inv-loop μ-loop
-mul-j c = search needs
+feature-of-requires : tie.Need-feature-of-requires Inv-loop μ-loop
+feature-of-requires c κs = search needs
 
-shared-slice-read-j : tie.Need-shared-slice-read-j Inv-loop μ-loop
-shared-slice-read-j c = search needs
-
-cast-j : tie.Need-cast-j Inv-loop μ-loop
-cast-j c = omega (arith, below (c .before))
-
-mul-kept : tie.Need-mul-kept Inv-loop μ-loop
-mul-kept c = omega (arith, below (c .before))
-
-shared-slice-read-kept : tie.Need-shared-slice-read-kept Inv-loop μ-loop
-shared-slice-read-kept c = below (c .before .before)
+weight-requires : tie.Need-weight-requires Inv-loop μ-loop
+weight-requires c κs = below c
 
 add-kept : tie.Need-add-kept Inv-loop μ-loop
 add-kept c = search needs
 
-mul-kept-2 : tie.Need-mul-kept-2 Inv-loop μ-loop
-mul-kept-2 c = search needs
+mul-kept : tie.Need-mul-kept Inv-loop μ-loop
+mul-kept c = search needs
 
 slice-write-kept : tie.Need-slice-write-kept Inv-loop μ-loop
 slice-write-kept c = search needs
@@ -56,7 +51,10 @@ loop-less : tie.Need-loop-less Inv-loop μ-loop
 loop-less c = search needs
 
 loop-again : tie.Need-loop-again Inv-loop μ-loop
-loop-again c = (search needs, search needs, rw (c .before .before .before .loop .inv .2) (put-more _ _ _ _ nan (omega arith) _ refl))
+loop-again c =
+    let a = c .before .before .before .before .before .before .before .args in
+    let gathered = c .weight .ensures ∙ ap (at (now (a .w))) (c .before .feature-of .ensures) in
+    (search needs, search needs, rw (c .before .before .before .loop .inv .2) (put-more _ _ _ _ nan (omega arith) _ gathered))
 
 same-length : tie.Need-same-length Inv-loop μ-loop
 same-length c = search needs
@@ -71,13 +69,10 @@ keep-spec =
     Inv-loop
     μ-loop
     loop-holds
-    mul-j
-    shared-slice-read-j
-    cast-j
-    mul-kept
-    shared-slice-read-kept
+    feature-of-requires
+    weight-requires
     add-kept
-    mul-kept-2
+    mul-kept
     slice-write-kept
     add-i
     loop-less

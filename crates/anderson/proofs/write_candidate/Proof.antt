@@ -1,6 +1,6 @@
 -- `write_candidate`: the invariant is the definition's loop over the working set's places passed. Assumes nothing.
-use mathlib.Core.Path.{_≡_}
-use Prim.Native.Nat.{_≤_, _-_}
+use mathlib.Core.Path.{_≡_, _∙_}
+use Prim.Native.Nat.{_≤_, _<_, _-_}
 use lib.ListN.{length, getD, set}
 use native.Mathlib.Omega.{arith}
 use Rattle.doubles.specs.Steps.{steps}
@@ -12,10 +12,18 @@ use Rattle.anderson.proofs.write_candidate.Statement.{statement}
 use Rattle.anderson.proofs.write_candidate.Tie as tie
 
 abbrev Inv-loop : tie.InvT-loop
-Inv-loop kept shape c ws w₀ i₀ w i = (i ≤ length ws) × (length w ≡ shape .p) × (w ≡ steps (λ k v. set v (getD ws k 0) (combined (shape .depth) (shape .p) kept c k)) i w₀)
+Inv-loop kept shape c ws w₀ i₀ w i = (i ≤ length ws) × (length w ≡ shape .p)
+    × (w ≡ steps (λ k v. set v (getD ws k 0) (combined (shape .depth) (shape .p) kept c k)) i w₀)
 
 abbrev μ-loop : tie.MeasureT-loop
 μ-loop kept shape c ws w₀ i₀ w i = length ws - i
+
+below : (c : tie.After-feature-of Inv-loop μ-loop)
+    → c .feature-of .result .0 < c .before .before .before .before .before .before .before .before .before .before .args .shape .p
+below c =
+    let e = c .before .before .before .before .before .before .before .before .before .before .pre .0 _ (c .before .loop-test .taken) in
+    let q = c .feature-of .ensures in
+    omega arith
 
 clear-requires : tie.Need-clear-requires Inv-loop μ-loop
 clear-requires c κs = search needs
@@ -23,23 +31,14 @@ clear-requires c κs = search needs
 loop-holds : tie.Need-loop-holds Inv-loop μ-loop
 loop-holds c = (search needs, search needs, steps-none _ _)
 
-mul-j : tie.Need-mul-j Inv-loop μ-loop
-mul-j c = search needs
-
-shared-slice-read-j : tie.Need-shared-slice-read-j Inv-loop μ-loop
-shared-slice-read-j c = search needs
-
-cast-j : tie.Need-cast-j Inv-loop μ-loop
-cast-j c = omega (arith, c .before .before .before .before .before .before .before .before .before .before .pre .0 _ (c .before .loop-test .taken))
+feature-of-requires : tie.Need-feature-of-requires Inv-loop μ-loop
+feature-of-requires c κs = search needs
 
 combined-requires : tie.Need-combined-requires Inv-loop μ-loop
 combined-requires c κs = search needs
 
-mul-w : tie.Need-mul-w Inv-loop μ-loop
-mul-w c = omega (arith, c .before .before .before .before .before .before .before .before .before .before .before .pre .0 _ (c .before .before .loop-test .taken))
-
-slice-write-w : tie.Need-slice-write-w Inv-loop μ-loop
-slice-write-w c = omega (arith, c .before .before .before .before .before .before .before .before .before .before .before .pre .0 _ (c .before .before .loop-test .taken))
+set-weight-requires : tie.Need-set-weight-requires Inv-loop μ-loop
+set-weight-requires c κs = omega (arith, below (c .before .before))
 
 add-i : tie.Need-add-i Inv-loop μ-loop
 add-i c = search needs
@@ -48,13 +47,23 @@ loop-less : tie.Need-loop-less Inv-loop μ-loop
 loop-less c = search needs
 
 loop-again : tie.Need-loop-again Inv-loop μ-loop
-loop-again c = (search needs, search needs, steps-turn _ _ _ _ _ (c .before .before .before .loop .inv .2) (rw (c .combined .ensures)))
+loop-again c = (
+  search needs,
+  search needs,
+  steps-turn _ _ _ _ _ (c .before .before .before .before .before .before .before .loop .inv .2)
+      (c .before .before .set-weight .ensures ∙ rw (c .before .before .before .combined .ensures, c .before .before .before .before .before .feature-of .ensures)),
+)
 
 same-length : tie.Need-same-length Inv-loop μ-loop
 same-length c = search needs
 
 returns : tie.Need-returns Inv-loop μ-loop
-returns c = candidate-done _ _ _ _ _ _ _ _ _ (c .before .before .before .before .clear .ensures) (c .before .before .before .before .before .before .before .before .before .pre .1) (c .before .loop .inv .2) (c .before .loop .inv .0) (c .loop-test .left)
+returns c =
+    candidate-done _ _ _ _ _ _ _ _ _ (c .before .before .before .before .clear .ensures)
+    (c .before .before .before .before .before .before .before .before .before .pre .1)
+    (c .before .loop .inv .2)
+    (c .before .loop .inv .0)
+    (c .loop-test .left)
 
 pub write-candidate-spec : {M : Type 1} → statement M
 write-candidate-spec =
@@ -64,12 +73,9 @@ write-candidate-spec =
     μ-loop
     clear-requires
     loop-holds
-    mul-j
-    shared-slice-read-j
-    cast-j
+    feature-of-requires
     combined-requires
-    mul-w
-    slice-write-w
+    set-weight-requires
     add-i
     loop-less
     loop-again
