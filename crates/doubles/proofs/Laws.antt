@@ -7,9 +7,11 @@ pub mod Order
 pub mod Less
 pub mod Below
 pub mod Zero
+pub mod Finite
 pub mod Exact
 pub mod Signs
 pub mod Steps
+pub mod Ends
 pub mod Buffer
 pub mod Parts
 pub mod Counts

@@ -4,12 +4,13 @@ use mathlib.Core.Path.{_≡_, refl, sym, ap, _∙_}
 use mathlib.Core.Bool.{Bool, true, false, false≢true}
 use mathlib.Core.List.{List, [], _∷_, _++_, append-assoc, append-nil}
 use Prim.Native.Nat.{ℕ, zero, suc, _+_, _-_, _≤_, _<_}
+use native.Mathlib.Decide.{ℕ-discrete}
 use native.Mathlib.Numerals.{add-one}
 use native.Mathlib.Nat.{le-antisymm, add-zero, add-suc}
 use native.Mathlib.Omega.{arith}
 use borrow.Author.Count.{below-more}
 use lib.ListN.{length, getD, set, drop, length-append, length-drop, drop-of-length-le, List·getD-append}
-use lib.Seq.{drop-cons, getD-at, set-at}
+use lib.Seq.{drop-cons, getD-at, set-at, getD-set-same, getD-set-other}
 use Rattle.doubles.specs.Num.{pick, _and_}
 use Rattle.doubles.specs.Steps.{steps, tab, all, upward, downward, Stage, going, stopped, bad, next, upto, over}
 use Rattle.doubles.proofs.Laws.Choice.{and-both}
@@ -115,6 +116,15 @@ pub tab-same : {A : Type 0} (f g : ℕ → A) (n : ℕ) → ((i : ℕ) → i < n
 unfolding steps
 tab-same f g zero h = refl
 tab-same f g (suc n) h = rw (tab-same f g n (λ i k. h i (omega arith)), h n (omega arith))
+
+-- a store, looked up: what holds of the new entry in its place, and of the old ones in the others
+pub set-place : {A : Type 0} (l : List A) (k : ℕ) (x d : A) (P : A → Type 0) (i : ℕ) → (i ≡ k → k < length l) → (i ≡ k → P x) → ((i ≡ k → ⊥) → P (getD l i d))
+    → P (getD (set l k x) i d)
+set-place l k x d P i h p q = go (ℕ-discrete i k)
+  where
+    go : Dec (i ≡ k) → P (getD (set l k x) i d)
+    go (yes e) = rw (e, getD-set-same l k x d (h e)) (p e)
+    go (no n) = rw (getD-set-other l k i x d n) (q n)
 
 -- ---- whether all hold
 module _ (g : ℕ → Bool) where

@@ -1,7 +1,8 @@
 -- A sum that starts at +0 is never -0. The terms fit the format, so that no nonzero sum of two of them rounds to zero. Assumes nothing.
 use mathlib.Core.Path.{_≡_, refl, sym, ap, _∙_}
 use Prim.Native.Nat.{ℕ, zero, suc, _+_, _-_, _*_, _/_, _%_, _^_, compare, _≤_, _<_, suc-le-suc}
-use native.Mathlib.Nat.{le-refl, le-suc, le-trans, le-of-eq, mul-pos, zero-lt-suc, mul-one, one-mul, mul-comm, mul-assoc, suc-mul, mul-le-mul, mul-le-mul-right, lt-of-mul-lt-mul-right, le-add-right}
+use native.Mathlib.Nat.{le-refl, le-suc, le-trans, le-of-eq, le-add-right, zero-lt-suc, mul-pos, mul-one, one-mul, mul-comm, mul-assoc, suc-mul}
+use native.Mathlib.Nat.{mul-le-mul, mul-le-mul-right, lt-of-mul-lt-mul-right}
 use native.Mathlib.Omega.{arith}
 use mathlib.Core.Bool.{Bool, true, false, not, _&&_, cond, true≢false}
 use lib.IntN.{ℤ, pos, negsuc}
@@ -87,7 +88,8 @@ ge-one a b h = omega arith
 grid : (m n : ℕ) (e d : ℤ) (L : ℕ) → 0 < L → down e ≤ L → down d ≤ L → m * up e * down d < n * up d * down e
     → down e * down d ≤ (n * up d * down e - m * up e * down d) * L
 grid m n (pos i) d L P h k l = step (m * up (pos i) * down d) (n * up d * down (pos i)) 1 (down d) L _ _ _ (sym (mul-one _)) (sym (mul-one _)) refl k l
-grid m n (negsuc i) (pos j) L P h k l = step (m * 1 * 1) (n * 2 ^ j * 2 ^ suc i) 1 (2 ^ suc i) L _ _ _ (sym (mul-one _)) (sym (mul-one _)) (mul-comm (2 ^ suc i) 1) h l
+grid m n (negsuc i) (pos j) L P h k l =
+    step (m * 1 * 1) (n * 2 ^ j * 2 ^ suc i) 1 (2 ^ suc i) L _ _ _ (sym (mul-one _)) (sym (mul-one _)) (mul-comm (2 ^ suc i) 1) h l
 grid m n (negsuc i) (negsuc j) L P h k l = go (leb i j) (leb→le i j) (nleb→lt i j)
   where
     x : ℕ
@@ -118,7 +120,10 @@ unfolding fits
 fits-down f s zero e h =
     let p : up e * down e ≡ 1 = eqb→eq (up e * down e) 1 h in
     le-trans (le-trans (le-of-eq (sym (one-mul (down e)))) (mul-le-mul-right (down e) (up-pos e))) (le-trans (le-of-eq p) (one-le f))
-fits-down f s (suc m) e h = leb→le (down e) (2 ^ low f) (and-r (eqb (suc m % 2) 1 && ltb (suc m) (2 ^ prec f)) (leb (down e) (2 ^ low f)) (and-l (eqb (suc m % 2) 1 && ltb (suc m) (2 ^ prec f) && leb (down e) (2 ^ low f)) (ltb (suc m * up e) (2 ^ suc (emax f) * down e)) h))
+fits-down f s (suc m) e h =
+    leb→le (down e) (2 ^ low f)
+    (and-r (eqb (suc m % 2) 1 && ltb (suc m) (2 ^ prec f)) (leb (down e) (2 ^ low f))
+    (and-l (eqb (suc m % 2) 1 && ltb (suc m) (2 ^ prec f) && leb (down e) (2 ^ low f)) (ltb (suc m * up e) (2 ^ suc (emax f) * down e)) h))
 
 larger : (a b L c : ℕ) → c ≤ a * L → c ≤ (a + b) * L
 larger a b L c h = le-trans h (mul-le-mul-right L (le-add-right a b))
@@ -205,6 +210,17 @@ unfolding steps
 sum-never t zero h = rw plus-zero (unfold negzero in refl)
 sum-never t (suc n) h =
     add-keeps binary64 (sumOf t n) (t n) (sum-fits t n) (h n (le-refl (suc n))) (sum-never t n (λ i l. h i (le-trans l (le-suc n))))
+
+-- a double that is not -0; a sum that starts from one is one
+pub record Sure (x : Float) : Type 0 where
+  pub holds : T (fits binary64 x)
+  pub never : negzero x ≡ false
+
+pub sure-zero : Sure #0
+sure-zero = record { holds = ofBits-fits binary64 0; never = rw plus-zero (unfold negzero in refl) }
+
+pub sure-add : (x y : Float) → Sure x → T (fits binary64 y) → Sure (add binary64 x y)
+sure-add x y h k = record { holds = add-fits binary64 x y; never = add-keeps binary64 x y (h .holds) k (h .never) }
 
 big : (k x : ℕ) → x ≡ 2 ^ suc k → x ≡ 1 → ⊥
 big k x p q = let l : 1 < 2 ^ suc k = pow-lt (zero-lt-suc k) in omega arith

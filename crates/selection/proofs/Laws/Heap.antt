@@ -11,6 +11,7 @@ use mir.Val.{boolByte}
 use lib.ListN.{length, getD, take, drop, set, length-set, length-append, length-drop, take-append-drop, List·getD-append}
 use lib.Seq.{getD-set-same, getD-set-other, getD-take, getD-drop, getD-append-add, length-take-le, take-append-le, take-at, take-length, set-getD}
 use Rattle.doubles.specs.Inner.Order.{Behind, Strict, Each, OrderedFrom, count, Same}
+use Rattle.doubles.proofs.Laws.Steps.{set-place as placed}
 use Rattle.doubles.proofs.Laws.Counts.{count-set, count-append, same-each, same-self, same-trans}
 use Rattle.doubles.proofs.Laws.Sorted.{behind-self}
 use Rattle.selection.specs.Inner.Heap.{Heap, LastOf, Goes}
@@ -22,11 +23,7 @@ heap-later b g h = record { each = λ i k e p q f. h .each i k (omega arith) p q
 module _ (l : List ℕ) (k x : ℕ) (h : k < length l) where
   -- what holds of the new number in its place, and of the old ones in the others, holds in every place
   set-place : (P : ℕ → Type 0) (i : ℕ) → (i ≡ k → P x) → ((i ≡ k → ⊥) → P (getD l i 0)) → P (getD (set l k x) i 0)
-  set-place P i p q = go (ℕ-discrete i k)
-    where
-      go : Dec (i ≡ k) → P (getD (set l k x) i 0)
-      go (yes e) = rw (e, getD-set-same l k x 0 h) (p e)
-      go (no n) = rw (getD-set-other l k i x 0 n) (q n)
+  set-place P i p q = placed l k x 0 P i (λ e. h) p q
 
   pub set-each : (P : ℕ → Type 0) → Each P l → P x → Each P (set l k x)
   set-each P f n = record { each = λ i g. set-place P i (λ e. n) (λ e. f .each i (rw length-set at g)) }
