@@ -3,3 +3,5 @@ pub mod Search
 pub mod Layouts
 pub mod Passed
 pub mod Gradients
+pub mod Numbers
+pub mod Moved

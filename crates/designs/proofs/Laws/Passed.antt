@@ -13,13 +13,15 @@ use lib.ListN.{length, getD}
 use lib.Ieee.{Float}
 use Rattle.doubles.specs.Num.{_and_, _or_}
 use Rattle.doubles.proofs.Laws.Choice.{and-both}
+use Rattle.doubles.proofs.Laws.Ends.{or-fails, neither-holds}
 use Rattle.doubles.specs.Answer.{refused, answered}
 use Rattle.doubles.specs.declared.Refusal.{Refusal}
 use Rattle.designs.specs.Search.{mark}
 use Rattle.designs.proofs.Laws.Search.{unmarked, first-none, none-first}
 use Rattle.designs.proofs.Laws.Layouts.{row-below}
 use Rattle.designs.specs.Sound.{Rising, Sound, Held, Whole}
-use Rattle.designs.specs.Checks.{Fault, none, fault, verdictOf, after, left, unless, told, lengths, sizes, falls, badStart, badStarts, badRow, badColumn, badRows, cscFault, contents, admitted}
+use Rattle.designs.specs.Checks.{Fault, none, fault, verdictOf, after, left, unless, told, lengths, sizes}
+use Rattle.designs.specs.Checks.{falls, badStart, badStarts, badRow, badColumn, badRows, cscFault, contents, admitted}
 use Rattle.designs.specs.declared.Found.{Found}
 use Rattle.designs.specs.declared.Found.the-variants.{At, Nowhere}
 use Rattle.designs.specs.declared.Layout.{Layout}
@@ -29,19 +31,10 @@ use Rattle.designs.specs.declared.Verdict.{Verdict}
 use Rattle.designs.specs.declared.Verdict.the-variants as Verdict
 
 -- ---- connectives
-neither : (a b : Bool) → (a or b) ≡ false → (a ≡ false) × (b ≡ false)
-unfolding _or_
-neither false b e = (refl, e)
-neither true b e = absurd (false≢true (sym e))
-
 not-second : (a b : Bool) → (a and b) ≡ false → a ≡ true → b ≡ false
 unfolding _and_
 not-second true b e h = e
 not-second false b e h = absurd (false≢true h)
-
-neither-of : (a b : Bool) → a ≡ false → b ≡ false → (a or b) ≡ false
-unfolding _or_
-neither-of a b h k = rw (h, k)
 
 second-of : (a b : Bool) → (a ≡ true → b ≡ false) → (a and b) ≡ false
 unfolding _and_
@@ -95,15 +88,15 @@ module _ (n p : ℕ) (starts rows : List ℕ) (values : List Float) where
 module _ (starts : List ℕ) (m i : ℕ) (e : badStart starts m i ≡ false) where
   start-falls : falls starts i ≡ false
   unfolding badStart
-  start-falls = neither _ _ e .0
+  start-falls = or-fails _ _ e .0
 
   start-within : getD starts i 0 ≤ m
   unfolding badStart
-  start-within = ltb-false m (getD starts i 0) (neither _ _ (neither _ _ e .1) .0)
+  start-within = ltb-false m (getD starts i 0) (or-fails _ _ (or-fails _ _ e .1) .0)
 
   start-last : i + 1 ≡ length starts → m ≤ getD starts i 0
   unfolding badStart
-  start-last h = ltb-false (getD starts i 0) m (not-second _ _ (neither _ _ (neither _ _ e .1) .1) (eq-eqb (i + 1) (length starts) h))
+  start-last h = ltb-false (getD starts i 0) m (not-second _ _ (or-fails _ _ (or-fails _ _ e .1) .1) (eq-eqb (i + 1) (length starts) h))
 
   start-first : i ≡ 0 → getD starts i 0 ≡ 0
   unfolding falls
@@ -118,7 +111,8 @@ module _ (starts : List ℕ) (m i : ℕ) (e : badStart starts m i ≡ false) whe
 pub rises : (p m : ℕ) (starts : List ℕ) → length starts ≡ p + 1 → badStarts starts m ≡ Nowhere → Rising p m starts
 unfolding badStarts
 rises p m starts l e =
-    let each : (i : ℕ) → i < p + 1 → badStart starts m i ≡ false = λ i h. unmarked _ _ (first-none (λ i. mark (badStart starts m i) i) (length starts) e i (omega arith)) in
+    let each : (i : ℕ) → i < p + 1 → badStart starts m i ≡ false =
+    λ i h. unmarked _ _ (first-none (λ i. mark (badStart starts m i) i) (length starts) e i (omega arith)) in
     record {
       up = λ j h. start-up starts m (j + 1) (each (j + 1) (omega arith)) j refl;
       within = λ j h. start-within starts m j (each j h);
@@ -153,12 +147,14 @@ module _ (n p : ℕ) (starts rows : List ℕ) (b : badRows n p starts rows ≡ N
   rows-below : (m : ℕ) → Rising p m starts → (e : ℕ) → e < m → getD rows e 0 < n
   unfolding badRow
   rows-below m s e h =
-      at-each p m starts s (λ i. getD rows i 0 < n) e (λ j k hj hk. leb-false n (getD rows (getD starts j 0 + k) 0) (neither _ _ (row-fine j k hj hk) .0)) h
+      at-each p m starts s (λ i. getD rows i 0 < n) e (λ j k hj hk. leb-false n (getD rows (getD starts j 0 + k) 0) (or-fails _ _ (row-fine j k hj hk) .0)) h
 
-  rows-ascend : (j k : ℕ) → j < p → k < getD starts (j + 1) 0 - getD starts j 0 → 0 < k → getD rows (getD starts j 0 + k - 1) 0 < getD rows (getD starts j 0 + k) 0
+  rows-ascend : (j k : ℕ) → j < p → k < getD starts (j + 1) 0 - getD starts j 0 → 0 < k
+      → getD rows (getD starts j 0 + k - 1) 0 < getD rows (getD starts j 0 + k) 0
   unfolding badRow
   rows-ascend j k hj hk h =
-      leb-false (getD rows (getD starts j 0 + k) 0) (getD rows (getD starts j 0 + k - 1) 0) (not-second _ _ (neither _ _ (row-fine j k hj hk) .1) (lt-ltb 0 k h))
+      leb-false (getD rows (getD starts j 0 + k) 0) (getD rows (getD starts j 0 + k - 1) 0)
+      (not-second _ _ (or-fails _ _ (row-fine j k hj hk) .1) (lt-ltb 0 k h))
 
 -- ---- all of them together
 untold : (number : ℕ) (f : Found) (g : Fault) → told number f g ≡ none → (f ≡ Nowhere) × (g ≡ none)
@@ -208,8 +204,8 @@ module _ (n p : ℕ) (starts rows : List ℕ) (values y : List Float) where
   sound-start : Sound n p starts rows values → (i : ℕ) → i < p + 1 → badStart starts (length values) i ≡ false
   unfolding badStart
   sound-start S i h =
-      neither-of _ _ (sound-falls S i h)
-      (neither-of _ _ (le-ltb (length values) (getD starts i 0) (S .rising .within i h))
+      neither-holds _ _ (sound-falls S i h)
+      (neither-holds _ _ (le-ltb (length values) (getD starts i 0) (S .rising .within i h))
       (second-of _ _ (λ t. le-ltb (getD starts i 0) (length values) (omega (arith, sound-last S i (eqb-true (i + 1) (length starts) t))))))
 
   pub sound-passes : Sound n p starts rows values → (badStarts starts (length values) ≡ Nowhere) × (badRows n p starts rows ≡ Nowhere)
@@ -218,7 +214,7 @@ module _ (n p : ℕ) (starts rows : List ℕ) (values y : List Float) where
     none-first (λ i. mark (badStart starts (length values) i) i) (length starts) (λ i h. rw (sound-start S i (rw (S .columns) at h))),
     none-first (badColumn n starts rows) p
         (λ j hj. none-first (λ k. mark (badRow n rows (getD starts j 0) k) (getD starts j 0 + k)) (getD starts (j + 1) 0 - getD starts j 0)
-        (λ k hk. rw (neither-of _ _ (lt-leb n (getD rows (getD starts j 0 + k) 0) (row-below S j hj k hk))
+        (λ k hk. rw (neither-holds _ _ (lt-leb n (getD rows (getD starts j 0 + k) 0) (row-below S j hj k hk))
         (second-of _ _ (λ t. lt-leb (getD rows (getD starts j 0 + k) 0) (getD rows (getD starts j 0 + k - 1) 0) (S .ascending j k hj hk (ltb-true 0 k t))))))),
   )
 
