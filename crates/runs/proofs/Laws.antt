@@ -1,2 +1,5 @@
 -- Laws on the definitions of specs/, which the crates above cite.
 pub mod Settings
+pub mod Passed
+pub mod Ends
+pub mod Keeps

@@ -26,10 +26,11 @@ use Rattle.runs.specs.Run.{State}
 use Rattle.runs.specs.Call.{Lent, fitFault, fitted, weightsOf, fitEntries, fitCall}
 use Rattle.runs.specs.declared.Report.{Report}
 use Rattle.runs.specs.declared.Settings.{Settings}
+use Rattle.runs.proofs.Laws.Passed.{passed}
 use Rattle.signs.specs.Turning.{SameRun, Both, both-going, both-stopped, both-bad, SameCall, turned, signsOf}
 use Rattle.signs.proofs.Laws.Exact.{signs-zeros}
 use Rattle.signs.proofs.Laws.Sets.{zero-same}
-use Rattle.signs.proofs.SignLaw.{passed, sign-law-passed, sign-law}
+use Rattle.signs.proofs.SignLaw.{sign-law-passed, sign-law}
 
 signs-of : (s : ℕ → Bool) (xs : List Float) → Signs s xs (turned s xs)
 unfolding turned
@@ -104,7 +105,8 @@ columns-turned c t s starts rows values y S b off =
 module _ {c : ℕ → Bool} {t : Bool} {s : Shape} {starts rows : List ℕ} {values values' y y' : List Float} {S : Settings} {b : Lent}
     (law : SameCall c t s starts rows values values' y y' S b) where
   -- a NaN target is refused with 6 at the same place, and so is whatever else is refused
-  pub refused-both : (number place : ℕ) → fitCall s starts rows values y S b ≡ refused number place → fitCall s starts rows values' y' S b ≡ refused number place
+  pub refused-both : (number place : ℕ) → fitCall s starts rows values y S b ≡ refused number place
+      → fitCall s starts rows values' y' S b ≡ refused number place
   refused-both number place e = sym (law .answer) ∙ e
 
   -- the tolerance is met by both or by none: the report is the same

@@ -4,39 +4,27 @@ use mathlib.Core.Path.{_≡_, refl}
 use mathlib.Core.Bool.{Bool, true, false}
 use mathlib.Core.List.{List}
 use Prim.Native.Nat.{ℕ, _≤_, _<_}
-use lib.Dec.{eqb}
-use lib.ListN.{length}
 use lib.Ieee.{Float}
-use Rattle.doubles.specs.Num.{_and_}
 use Rattle.doubles.specs.Steps.{Stage}
 use Rattle.doubles.specs.Sign.{Turned, Signs}
 use Rattle.doubles.specs.Answer.{answered}
 use Rattle.leaves.specs.Odd.{Odd}
 use Rattle.leaves.proofs.Odd.{odd}
 use Rattle.designs.specs.Design.{Design, dense, csc, laid, design, prepared}
-use Rattle.designs.specs.Checks.{Fault, none, fault, sizes, admitted}
+use Rattle.designs.specs.Checks.{Fault, none, fault}
 use Rattle.designs.specs.declared.Layout.{Layout}
 use Rattle.designs.specs.declared.Layout.the-variants.{Dense, Csc}
 use Rattle.designs.specs.declared.Shape.{Shape}
 use Rattle.designs.proofs.Laws.Layouts.{samples, features}
-use Rattle.designs.proofs.Laws.Passed.{Admitted, spared, admits}
 use Rattle.runs.specs.Run.{State}
-use Rattle.runs.specs.Call.{settingsLegal, Lent, roomy, fitFault, solved, fitted, ended, answer, fitCall}
+use Rattle.runs.specs.Call.{Lent, fitFault, solved, fitted, ended, answer, fitCall}
 use Rattle.runs.specs.declared.Settings.{Settings}
+use Rattle.runs.proofs.Laws.Passed.{passed}
 use Rattle.runs.proofs.Laws.Settings.{penalty-legal}
 use Rattle.signs.specs.Turning.{Turning, SameRun, Both, both-going, both-stopped, both-bad, SameCall}
 use Rattle.signs.proofs.Laws.Pairs.{with-values}
 use Rattle.signs.proofs.Laws.Preparation.{solved-turned}
 use Rattle.signs.proofs.Laws.Faults.{fault-same}
-
--- ---- what a call that is not refused says of its settings and its sizes
-pub passed : (s : Shape) (starts rows : List ℕ) (values y : List Float) (S : Settings) (b : Lent) → fitFault s starts rows values y S b ≡ none
-    → (settingsLegal S ≡ true) × Admitted s starts rows values (eqb (length y) (s .n)) (roomy s S b)
-unfolding fitFault
-passed s starts rows values y S b e =
-    let rest = admitted s starts rows values y (eqb (length y) (s .n)) (roomy s S b) in
-    let r = spared (settingsLegal S) 2 rest (spared (sizes s starts rows values and eqb (length y) (s .n)) 1 _ e .1) in
-    (r .0, admits s starts rows values y (eqb (length y) (s .n)) (roomy s S b) (r .1))
 
 -- ---- two designs of one shape differ in their values alone
 alike : (l : Layout) (n p : ℕ) (starts rows : List ℕ) (values values' : List Float)
@@ -67,7 +55,8 @@ module _ {c σ : ℕ → Bool} {t : Bool} {s : Shape} {starts rows : List ℕ} {
 
   -- X' is the other design
   solve : (p : ℕ) (X X' : Design) (other : ℕ → ℕ → Float) → X .p ≡ p → X' ≡ with-values X other
-      → ((j k : ℕ) → j < p → k < X .many j → Turned (c j) (X .value j k) (other j k)) → (S .extrapolate ≡ true → (j : ℕ) → c j ≡ false) → Odd (S .penalty) → 1 ≤ X .n → X .n ≤ 65536
+      → ((j k : ℕ) → j < p → k < X .many j → Turned (c j) (X .value j k) (other j k))
+      → (S .extrapolate ≡ true → (j : ℕ) → c j ≡ false) → Odd (S .penalty) → 1 ≤ X .n → X .n ≤ 65536
       → Both (SameRun c t S)
       (solved (record { n = s .n; p = p; X = X; penalty = S .penalty; prepared = prepared X y }) y S)
       (solved (record { n = s .n; p = p; X = X'; penalty = S .penalty; prepared = prepared X' y' }) y' S)
