@@ -1,0 +1,36 @@
+-- What a run that completes holds: "Status is 1 (met) if violation ≤ tolerance, else 2 (spent)", and its numbers are finite, for any other is refusal 7.
+use mathlib.Core.Path.{_≡_}
+use mathlib.Core.Bool.{true, false}
+use mathlib.Core.List.{List}
+use Prim.Native.Nat.{ℕ, _<_}
+use lib.ListN.{length}
+use lib.Ieee.{Float}
+use Rattle.doubles.specs.Num.{at, finite}
+use Rattle.doubles.specs.Sign.{negzero}
+use Rattle.doubles.specs.Steps.{stopped}
+use Rattle.doubles.specs.Answer.{answered}
+use Rattle.designs.specs.Checks.{none}
+use Rattle.designs.specs.declared.Shape.{Shape}
+use Rattle.runs.specs.Run.{State}
+use Rattle.runs.specs.Call.{Lent, fitFault, fitted, fitCall, fitLeft}
+use Rattle.runs.specs.declared.Settings.{Settings}
+use Rattle.runs.specs.declared.Report.{Report}
+
+-- the p weights, n fit entries and violation of an answer: finite, and no fit entry is -0
+pub record Finite (n p : ℕ) (weights fit : List Float) (violation : Float) : Type 0 where
+  pub weight : (j : ℕ) → j < p → finite (at weights j) ≡ true
+  pub entry : (i : ℕ) → i < n → finite (at fit i) ≡ true
+  pub sign : (i : ℕ) → i < n → negzero (at fit i) ≡ false
+  pub largest : finite violation ≡ true
+
+-- of the state that a run ends with
+pub record Completed (n p : ℕ) (s : State) : Type 0 where
+  pub weights : length (s .inner .point .weights) ≡ p
+  pub fit : length (s .inner .point .fit) ≡ n
+  pub numbers : Finite n p (s .inner .point .weights) (s .inner .point .fit) (s .violation)
+
+-- of a whole call: the state that its run stops at, and what it answers and leaves in the first p weights and n fit entries
+pub record CompletedCall (s : Shape) (starts rows : List ℕ) (values y : List Float) (S : Settings) (b : Lent) : Type 0 where
+  pub run : fitFault s starts rows values y S b ≡ none → (e : State) → fitted s starts rows values y S ≡ stopped e → Completed (s .n) (s .p) e
+  pub left : (r : Report) → fitCall s starts rows values y S b ≡ answered r
+      → Finite (s .n) (s .p) (fitLeft s starts rows values y S b .weights) (fitLeft s starts rows values y S b .fit) (r .violation)

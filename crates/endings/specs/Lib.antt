@@ -1,0 +1,3 @@
+-- What a reader believes of how a run ends.
+pub mod NotFinite
+pub mod Completed

@@ -1,0 +1,109 @@
+-- "7: during the run: a Lipschitz constant, the inverse of a nonzero one, X'y entry (these for all columns first), gradient, violation, new weight or
+-- changed fit entry is not finite": which numbers these are, and where a run comes to them.
+use mathlib.Core.Path.{_≡_}
+use mathlib.Core.Bool.{true, false}
+use mathlib.Core.List.{List}
+use Prim.Native.Nat.{ℕ, _+_, _≤_, _<_}
+use lib.ListN.{length, getD}
+use lib.Ieee.{Float, eq, le}
+use Rattle.doubles.specs.Num.{_⊖_, _⊘_, #0, #1, at, finite}
+use Rattle.doubles.specs.Steps.{going, bad, upto, over}
+use Rattle.doubles.specs.Answer.{refused, answered}
+use Rattle.designs.specs.Design.{design, moved, prepared}
+use Rattle.designs.specs.Checks.{none}
+use Rattle.designs.specs.declared.Shape.{Shape}
+use Rattle.runs.specs.Epoch as Epoch
+use Rattle.runs.specs.Epoch.{Task, task, gradientOf, violationOf, allKnown, worst, Point, newWeight, visit, visits}
+use Rattle.runs.specs.Run.{Inner, accelerated, checks, epoch, State, chosenSet, turn, start}
+use Rattle.runs.specs.Call.{Lent, usableAt, solved, fitFault, fitCall}
+use Rattle.runs.specs.declared.Settings.{Settings}
+use Rattle.runs.specs.declared.Report.{Report}
+
+-- the working set that is chosen at a state, and the violation it is chosen by
+abbrev pub setAt : Task → Settings → State → List ℕ
+setAt T S s = chosenSet T S (s .inner .point)
+
+abbrev pub worstAt : Task → State → Float
+worstAt T s = worst T (s .inner .point .weights) (s .inner .point .fit)
+
+-- what a visit of feature j at q adds to its weight, and the fit after it
+abbrev pub difference : Task → Point → ℕ → Float
+difference T q j = newWeight T q j ⊖ at (q .weights) j
+
+abbrev pub movedFit : Task → Point → ℕ → List Float
+movedFit T q j = moved (T .X) j (difference T q j) (q .fit)
+
+module _ (T : Task) (y : List Float) (S : Settings) where
+  -- ---- where the run comes to
+  -- turn t begins at state s; the columns were looked at before: "these for all columns first"
+  pub record Turns (t : ℕ) (s : State) : Type 0 where
+    pub columns : (j : ℕ) → j < T .p → usableAt T j ≡ true
+    pub inside : t ≤ S .iterations
+    pub reached : upto (turn T y S) t (start T S) ≡ going s
+
+  -- and its check does not end the run: an iteration follows
+  pub record Iterates (t : ℕ) (s : State) : Type 0 where
+    pub turns : Turns t s
+    pub known : allKnown T (s .inner .point .weights) (s .inner .point .fit) ≡ true
+    pub above : le (worstAt T s) (S .tolerance) ≡ false
+    pub more : t < S .iterations
+
+  -- epoch e of an iteration from state s begins at i
+  pub record Epochs (s : State) (e : ℕ) (i : Inner) : Type 0 where
+    pub turn : ℕ
+    pub iterates : Iterates turn s
+    pub inside : e < S .epochs
+    pub reached : upto (epoch T y S (setAt T S s) (worstAt T s)) e (s .inner) ≡ going i
+
+  -- the feature at a place of the working set is visited at point q, and not skipped
+  pub data Visited : Point → ℕ → Type 0 where
+    visited : {s : State} {e : ℕ} {i : Inner} → Epochs s e i → (place : ℕ) → place < length (setAt T S s) → {q : Point}
+        → upto (λ k. visit T (getD (setAt T S s) k 0)) place (i .point) ≡ going q
+        → eq (Epoch.constant T (getD (setAt T S s) place 0)) #0 ≡ false
+        → Visited q (getD (setAt T S s) place 0)
+
+  -- a feature's violation is looked at, at a point
+  pub data Checked : Point → ℕ → Type 0 where
+    -- by the check that a turn begins with: of every feature
+    of-turn : {t : ℕ} {s : State} → Turns t s → (j : ℕ) → j < T .p → Checked (s .inner .point) j
+    -- by the check of an epoch "when epoch is above 0 and divisible by 10": of the working set, after all visits and the extrapolation step
+    of-epoch : {s : State} {e : ℕ} {i : Inner} → Epochs s e i → checks e ≡ true → {q : Point} → visits T (setAt T S s) (i .point) ≡ going q
+        → (place : ℕ) → place < length (setAt T S s) → Checked (accelerated T y S (setAt T S s) e i q .point) (getD (setAt T S s) place 0)
+
+  -- a feature's gradient is looked at: at a check, and at a visit
+  pub data Looked : Point → ℕ → Type 0 where
+    at-check : {q : Point} {j : ℕ} → Checked q j → Looked q j
+    at-visit : {q : Point} {j : ℕ} → Visited q j → Looked q j
+
+  -- ---- the number that is not finite
+  pub data NotFinite : Type 0 where
+    -- "a Lipschitz constant, the inverse of a nonzero one, X'y entry"
+    constant : (j : ℕ) → j < T .p → finite (Epoch.constant T j) ≡ false → NotFinite
+    inverse : (j : ℕ) → j < T .p → eq (Epoch.constant T j) #0 ≡ false → finite (#1 ⊘ Epoch.constant T j) ≡ false → NotFinite
+    xty : (j : ℕ) → j < T .p → finite (at (T .prepared) (T .p + j)) ≡ false → NotFinite
+    -- "gradient, violation"
+    gradient : {q : Point} {j : ℕ} → Looked q j → finite (gradientOf T (q .fit) j) ≡ false → NotFinite
+    violation : {q : Point} {j : ℕ} → Checked q j → finite (violationOf T (q .weights) (q .fit) j) ≡ false → NotFinite
+    -- "new weight or changed fit entry": "if the difference is nonzero the fit gains difference·x", so the entries of column j's samples are changed
+    weight : {q : Point} {j : ℕ} → Visited q j → finite (newWeight T q j) ≡ false → NotFinite
+    fit : {q : Point} {j : ℕ} → Visited q j → eq (difference T q j) #0 ≡ false
+        → (k : ℕ) → k < T .X .many j → finite (at (movedFit T q j) (T .X .row j k)) ≡ false → NotFinite
+
+-- how a solve ends: it is over, and it breaks off exactly where it comes to such a number
+pub record SolveEnds (T : Task) (y : List Float) (S : Settings) : Type 0 where
+  pub ends : over (solved T y S) ≡ true
+  pub only : solved T y S ≡ bad → NotFinite T y S
+  pub whenever : NotFinite T y S → solved T y S ≡ bad
+
+-- what a whole call's run is given
+abbrev pub taskOf : Shape → List ℕ → List ℕ → List Float → List Float → Settings → Task
+taskOf s starts rows values y S = task s starts rows values (S .penalty) (prepared (design s starts rows values) y)
+
+-- refusal 7 of a whole call
+pub record Seven (s : Shape) (starts rows : List ℕ) (values y : List Float) (S : Settings) (b : Lent) : Type 0 where
+  -- it is given only where the run comes to such a number
+  pub only : (place : ℕ) → fitCall s starts rows values y S b ≡ refused 7 place → NotFinite (taskOf s starts rows values y S) y S
+  -- and there always, unless 1 to 6 came before
+  pub whenever : fitFault s starts rows values y S b ≡ none → NotFinite (taskOf s starts rows values y S) y S → fitCall s starts rows values y S b ≡ refused 7 0
+  -- a call that answers met none
+  pub answers : (r : Report) → fitCall s starts rows values y S b ≡ answered r → NotFinite (taskOf s starts rows values y S) y S → ⊥
