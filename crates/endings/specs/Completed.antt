@@ -1,4 +1,5 @@
--- What a run that completes holds: "Status is 1 (met) if violation ≤ tolerance, else 2 (spent)", and its numbers are finite, for any other is refusal 7.
+-- What a run that completes holds: p weights and n fit entries, all finite, and a finite violation, for any other number is refusal 7; and no fit entry
+-- is -0, for a fit grows from +0 by sums.
 use mathlib.Core.Path.{_≡_}
 use mathlib.Core.Bool.{true, false}
 use mathlib.Core.List.{List}

@@ -11,7 +11,7 @@ use mathlib.Core.List.{List}
 use lib.Dec.{ltb}
 use lib.ListN.{length, getD}
 use lib.Ieee.{Float}
-use Rattle.doubles.specs.Num.{_and_, _or_}
+use Rattle.doubles.specs.Num.{_and_}
 use Rattle.doubles.proofs.Laws.Choice.{and-both}
 use Rattle.doubles.proofs.Laws.Ends.{or-fails, neither-holds}
 use Rattle.doubles.specs.Answer.{refused, answered}

@@ -5,12 +5,11 @@ use mathlib.Core.List.{List}
 use Prim.Native.Nat.{ℕ, _+_}
 use native.Mathlib.Numerals.{add-one}
 use borrow.Author.Tests.{eq-eqb}
-use lib.Dec.{eqb}
 use lib.Ieee.{Float, le}
 use Rattle.doubles.specs.Num.{pick, _or_}
 use Rattle.doubles.specs.Steps.{steps, all, Stage, going, stopped, bad, next, upto, over}
 use Rattle.runs.specs.Epoch.{Task, allKnown, worst}
-use Rattle.runs.specs.Run.{State, ends, iteration, turn, start, run}
+use Rattle.runs.specs.Run.{State, ends, turn, start, run}
 use Rattle.runs.specs.Call.{usableAt, solved}
 use Rattle.runs.specs.declared.Settings.{Settings}
 
