@@ -68,15 +68,16 @@ module _ {penalty : Penalty} {w g : ℕ → Float} {i : ℕ} {l : Float} (p : Pa
 
 -- the answer for a feature of a working set, which is k, of its weight a and its gradient g
 pub of-feature : (T : Task) (w fit : List Float) (j k : ℕ) (a g : Float) (x : Stage Float) → j ≡ k → a ≡ at w j
-    → g ≡ gradient (T .X) j fit (at (T .prepared) (T .p + j)) → x ≡ violationAt (T .penalty) a g → x ≡ violationAt (T .penalty) (at w k) (gradientOf T fit k)
+    → g ≡ gradient (T .X) j fit (at (T .prepared) (T .p + j)) → x ≡ violationAt (T .penalty) a g
+    → x ≡ violationAt (T .penalty) (at w k) (gradientOf T fit k)
 unfolding gradientOf
 of-feature T w fit j k a g x ej ea eg e = e ∙ rw (ea, eg, ej)
 
 -- ---- a scratch in which the first j of the places from 2p on are written: the next holds its gradient still
-pub gradient-here : (penalty : Penalty) (w : List Float) (a : Float) (f : ℕ → Float) (l s : List Float) (p j : ℕ) (x : Stage Float) → a ≡ at w j
-    → s ≡ put l (p + p) (tab f j) → p + p + p ≤ length l → j < p → x ≡ violationAt penalty a (at s (p + p + j))
+pub gradient-here : (penalty : Penalty) (w : List Float) (a : Float) (f : ℕ → Float) (l s : List Float) (p j : ℕ) (x : Stage Float)
+    → s ≡ put l (p + p) (tab f j) → p + p + p ≤ length l → j < p → a ≡ at w j → x ≡ violationAt penalty a (at s (p + p + j))
     → x ≡ violationAt penalty (at w j) (at l (p + p + j))
-gradient-here penalty w a f l s p j x ea e h k q =
+gradient-here penalty w a f l s p j x e h k ea q =
     let t : at s (p + p + j) ≡ at l (p + p + j) = rw e (put-here f l (p + p) j nan (omega arith)) in
     q ∙ rw (ea, t)
 

@@ -57,8 +57,8 @@ returns c =
     let passed = c .before .before .before .before .before .before .loop .inv in
     let long = entry .pre .2 in
     let w = now (entry .args .w) in
-    let there = gradient-here _ w _ _ _ _ _ _ _ (c .before .before .before .before .weight .ensures) (passed .2) long
-    (c .before .before .before .before .before .loop-test .taken) (c .before .before .violation-at .ensures) in
+    let there = gradient-here _ w _ _ _ _ _ _ _ (passed .2) long (c .before .before .before .before .before .loop-test .taken)
+    (c .before .before .before .before .weight .ensures) (c .before .before .violation-at .ensures) in
     finished-bad _ w (now (entry .args .scratch)) _ long (passed .3) _ (passed .2) there (c .enum-told .given .1)
     (c .before .before .before .before .before .loop-test .taken)
 
@@ -91,9 +91,10 @@ loop-again c =
     let passed = c .before .before .before .before .before .before .before .before .loop .inv in
     let there =
     gradient-here _ (now (c .before .before .before .before .before .before .before .before .before .before .before .args .w)) _ _ _ _ _ _ _
-    (c .before .before .before .before .before .before .weight .ensures) (passed .2)
+    (passed .2)
     (c .before .before .before .before .before .before .before .before .before .before .before .pre .2)
-    (c .before .before .before .before .before .before .before .loop-test .taken) (c .before .before .before .before .violation-at .ensures) in
+    (c .before .before .before .before .before .before .before .loop-test .taken)
+    (c .before .before .before .before .before .before .weight .ensures) (c .before .before .before .before .violation-at .ensures) in
     let told = c .before .before .v .given .1 in (
       search needs,
       search needs,
