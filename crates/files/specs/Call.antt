@@ -52,6 +52,9 @@ pub record Places : Type 0 where
   pub starts : List ℕ
   pub rows : List ℕ
 
+abbrev pub places : List Float → List Float → List ℕ → List ℕ → Places
+places targets values starts rows = record { targets = targets; values = values; starts = starts; rows = rows }
+
 unfoldable pub roomy : Places → Bool
 roomy b = leb 6144 (length (b .targets)) and leb 4096 (length (b .values)) and leb 12288 (length (b .starts)) and leb 12288 (length (b .rows))
 

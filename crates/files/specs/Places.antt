@@ -9,7 +9,6 @@ use lib.Ieee.{Float}
 use Rattle.doubles.specs.Num.{pick, _and_}
 use Rattle.doubles.specs.Buffer.{put}
 use Rattle.files.specs.Bytes.{doubles, indices}
-use Rattle.files.specs.Call.{Places}
 use Rattle.files.specs.Problem.{Read, tagAt, lengthAt, goodHeader}
 use Rattle.files.specs.declared.Cursor.{Cursor}
 
@@ -51,9 +50,6 @@ advanced f c = record {
 }
 
 -- ---- the lent places
-abbrev pub places : List Float → List Float → List ℕ → List ℕ → Places
-places targets values starts rows = record { targets = targets; values = values; starts = starts; rows = rows }
-
 -- each array has room for the field's elements, if they are its own
 pub record Space (f : List ℕ) (c : Cursor) (a b d e : ℕ) : Type 0 where
   pub targets : tagAt f (c .at) ≡ 2 → c .targets + lengthAt f (c .at) / 8 ≤ a

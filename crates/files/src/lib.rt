@@ -317,7 +317,7 @@ fn refused(number: u32, place: usize) -> Parsed
 }
 
 fn has_room(targets: &[f64], values: &[f64], starts: &[u32], rows: &[u32]) -> bool
-    ensures { λ r. ⌜ r ≡ call.roomy (here.places (now (targets .entry)) (now (values .entry)) (now (starts .entry)) (now (rows .entry))) ⌝ }
+    ensures { λ r. ⌜ r ≡ call.roomy (call.places (now (targets .entry)) (now (values .entry)) (now (starts .entry)) (now (rows .entry))) ⌝ }
 {
     if targets.len() < 6144 {
         return false;
@@ -348,8 +348,8 @@ pub fn read(
     starts: &mut [u32],
     rows: &mut [u32],
 ) -> Parsed
-    ensures { λ r. ⌜ (call.parsedOf r ≡ call.readCall (now (file .entry)) (here.places (now (targets .entry)) (now (values .entry)) (now (starts .entry)) (now (rows .entry))))
-        × (here.places (now (targets .exit)) (now (values .exit)) (now (starts .exit)) (now (rows .exit)) ≡ call.readLeft (now (file .entry)) (here.places (now (targets .entry)) (now (values .entry)) (now (starts .entry)) (now (rows .entry))))
+    ensures { λ r. ⌜ (call.parsedOf r ≡ call.readCall (now (file .entry)) (call.places (now (targets .entry)) (now (values .entry)) (now (starts .entry)) (now (rows .entry))))
+        × (call.places (now (targets .exit)) (now (values .exit)) (now (starts .exit)) (now (rows .exit)) ≡ call.readLeft (now (file .entry)) (call.places (now (targets .entry)) (now (values .entry)) (now (starts .entry)) (now (rows .entry))))
         × call.Inside r ⌝ }
 {
     if 49152 < file.len() {

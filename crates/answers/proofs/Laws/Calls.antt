@@ -14,8 +14,7 @@ use Rattle.doubles.proofs.Laws.Parts.{part-at}
 use Rattle.doubles.specs.Answer.{Outcome, refused, answered}
 use Rattle.runs.specs.Call.{Lent}
 use Rattle.runs.specs.declared.Report.{Report}
-use Rattle.files.specs.Call.{Problem, parsed, Places, roomy, given, readProblem, sizesOf, sized, readCall, filled, readLeft}
-use Rattle.files.specs.Places.{places}
+use Rattle.files.specs.Call.{Problem, parsed, Places, places, roomy, given, readProblem, sizesOf, sized, readCall, filled, readLeft}
 use Rattle.files.specs.declared.Sizes.{Sizes}
 use Rattle.listings.specs.Call.{writeCall, writeLeft}
 use Rattle.listings.proofs.Laws.Calls.{write-fits}

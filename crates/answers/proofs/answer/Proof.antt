@@ -3,8 +3,7 @@ use mathlib.Core.Path.{sym, ap, _∙_}
 use native.Mathlib.Omega.{arith}
 use denote.Ref.{now}
 use Rattle.answers.proofs.Laws.Calls.{read-refused, read-problem, refusal-printed, fit-printed, own-room, own-places}
-use Rattle.files.specs.Call.{parsedOf}
-use Rattle.files.specs.Places.{places}
+use Rattle.files.specs.Call.{parsedOf, places}
 use Rattle.doubles.specs.Num.{#0}
 use borrow.Author.Needs.{needs}
 use Rattle.answers.proofs.answer.Statement.{statement}

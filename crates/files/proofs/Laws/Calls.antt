@@ -14,8 +14,8 @@ use Rattle.doubles.specs.Answer.{Outcome, refused, answered}
 use Rattle.designs.specs.declared.Shape.{Shape}
 use Rattle.runs.specs.declared.Settings.{Settings}
 use Rattle.files.specs.Problem.{readAll, shapeOf, settingsOf, goodHeader}
-use Rattle.files.specs.Call.{problem, ended, parsed, Places, roomy, readProblem, sizesOf, readCall, readLeft}
-use Rattle.files.specs.Places.{Header, Counts, places, Room, endedAt}
+use Rattle.files.specs.Call.{problem, ended, parsed, Places, places, roomy, readProblem, sizesOf, readCall, readLeft}
+use Rattle.files.specs.Places.{Header, Counts, Room, endedAt}
 use Rattle.files.specs.declared.Cursor.{Cursor}
 use Rattle.files.specs.declared.Sizes.{Sizes}
 

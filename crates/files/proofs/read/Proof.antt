@@ -2,8 +2,7 @@
 use mathlib.Core.Path.{sym, ap, _∙_}
 use denote.Ref.{now}
 use Rattle.files.proofs.Laws.Calls.{places-same, room-of, too-long, not-ended, some-read, no-room, read-well, sizes-read, sizes-inside}
-use Rattle.files.specs.Call.{roomy}
-use Rattle.files.specs.Places.{places}
+use Rattle.files.specs.Call.{roomy, places}
 use mathlib.Core.Bool.{false≢true}
 use borrow.Author.Needs.{needs}
 use Rattle.files.proofs.read.Statement.{statement}
