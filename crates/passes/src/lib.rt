@@ -62,14 +62,7 @@ fn dots_by_column(
 }
 
 // The products of v and all columns into p places; of the targets, X'y.
-pub fn all_dots(
-    shape: Shape,
-    starts: &[u32],
-    rows: &[u32],
-    values: &[f64],
-    v: &[f64],
-    buf: &mut [f64],
-)
+fn all_dots(shape: Shape, starts: &[u32], rows: &[u32], values: &[f64], v: &[f64], buf: &mut [f64])
     requires { ⌜ (length (now buf) ≡ shape .p) × Whole shape (now starts) (now rows) (now values) × (shape .n ≤ length (now v)) ⌝ }
     ensures { λ _. ⌜ now (buf .exit) ≡ def.dots (def.design shape (now (starts .entry)) (now (rows .entry)) (now (values .entry))) (now (v .entry)) ⌝ }
 {

@@ -51,7 +51,8 @@ unfolding neg div ofBits
 passed-none = record { finites = steps-none _ _; worst = steps-none _ _ }
 
 module _ {penalty : Penalty} {w g : ℕ → Float} {i : ℕ} {l : Float} (p : Passed penalty w g i l) where
-  pub passed-all : {A : Type 0} (f : Float → A) (n : ℕ) → i ≤ n → n ≤ i → going (f l) ≡ pick (allOf penalty w g n) (going (f (largestOf penalty w g n))) bad
+  pub passed-all : {A : Type 0} (f : Float → A) (n : ℕ) → i ≤ n → n ≤ i
+      → going (f l) ≡ pick (allOf penalty w g n) (going (f (largestOf penalty w g n))) bad
   passed-all f n a b = rw (← steps-all _ _ i n true (p .finites) a b, ← steps-all _ _ i n l (p .worst) a b)
 
   module _ {r : Worst} (e : worstOf r ≡ violationAt penalty (w i) (g i)) where
@@ -141,7 +142,8 @@ module _ (s : Shape) (starts rows : List ℕ) (values : List Float) (penalty : P
       let n = long-gradients in
       let f = violationThere penalty w p filled in
       let a : all (knownThere penalty w p filled) p ≡ all (known T w fit) p =
-      steps-same (λ i b. b and knownThere penalty w p filled i) (λ i b. b and known T w fit i) p true (λ k h b. ap (λ (z : Bool). b and z) (known-same k h)) in
+      steps-same (λ i b. b and knownThere penalty w p filled i) (λ i b. b and known T w fit i) p true
+      (λ k h b. ap (λ (z : Bool). b and z) (known-same k h)) in
       let v : largest f p ≡ largest (violationOf T w fit) p =
       steps-same (λ i v. larger v (f i)) (λ i v. larger v (violationOf T w fit i)) p (inf true) (λ k h b. ap (larger b) (violation-same k h)) in
       let t : tab f p ≡ tab (violationOf T w fit) p = tab-same f (violationOf T w fit) p violation-same in

@@ -19,7 +19,8 @@ module _ (X : Design) (j : ℕ) (d : Float) (fit : List Float) where
   unfolding movedFinite movedBy _or_
   stays e = (rw e, rw e)
 
-  pub moves : eq d #0 ≡ false → (m : List Float) (r : Bool) → m ≡ moved X j d fit → r ≡ finiteAt X j m → (r ≡ movedFinite X j d fit) × (m ≡ movedBy X j d fit)
+  pub moves : eq d #0 ≡ false → (m : List Float) (r : Bool) → m ≡ moved X j d fit → r ≡ finiteAt X j m
+      → (r ≡ movedFinite X j d fit) × (m ≡ movedBy X j d fit)
   unfolding movedFinite movedBy _or_
   moves e m r q h = (rw e (h ∙ rw q), rw e q)
 
