@@ -1,20 +1,22 @@
 -- What the start of a run has, and every visit and every candidate that is taken keep, each point has that the run comes to. Assumes nothing.
-use mathlib.Core.Path.{_≡_, refl}
+use mathlib.Core.Path.{_≡_, refl, sym}
 use mathlib.Core.Bool.{Bool, true, false}
 use mathlib.Core.List.{List}
-use Prim.Native.Nat.{ℕ}
+use Prim.Native.Nat.{ℕ, _+_}
 use lib.Dec.{eqb}
 use lib.ListN.{length, getD}
 use lib.Ieee.{Float, eq, le}
 use Rattle.doubles.specs.Num.{#0, pick, _or_}
-use Rattle.doubles.specs.Steps.{going, stopped, bad, upto}
+use Rattle.doubles.specs.Steps.{all, going, stopped, bad, upto}
 use Rattle.doubles.specs.Answer.{Outcome, refused, answered}
-use Rattle.doubles.proofs.Laws.Ends.{Holds, upto-keeps, then-keeps}
+use Rattle.doubles.proofs.Laws.Ends.{Holds, upto-keeps, then-keeps, stopped≢bad}
 use Rattle.systems.specs.Answer.{Ended, singular, solved as regular}
 use Rattle.systems.specs.Elimination.{solveCall}
 use Rattle.runs.specs.Epoch.{Task, Point, constant, allKnown, worst, knownIn, worstIn, fine, visited, visit, visits}
 use Rattle.runs.specs.Extrapolation.{keptNow, keeps, system, coefficients, candidate, better, chosen, pointOf, fromSolution, extrapolate, due, tried}
-use Rattle.runs.specs.Run.{Inner, gained, accelerated, enough, checked, checks, settled, epoch, epochs, State, chosenSet, iteration, ends, turn, start}
+use Rattle.runs.specs.Run.{Inner, gained, accelerated, enough, checked, checks, settled, epoch, epochs}
+use Rattle.runs.specs.Run.{State, chosenSet, iteration, ends, turn, start, run}
+use Rattle.runs.specs.Call.{usableAt, solved}
 use Rattle.runs.specs.declared.Settings.{Settings}
 
 -- P is kept from the zeros on: by a visit of a column whose constant is not 0 and whose numbers are finite, and by a candidate that is better
@@ -115,3 +117,11 @@ module _ (T : Task) (y : List Float) (S : Settings) (P : Point → Type 0) (K : 
 
   pub reached-keeps : (t : ℕ) (s : State) → upto (turn T y S) t (start T S) ≡ going s → P (s .inner .point)
   reached-keeps t s e = rw e at (turns-keep t)
+
+  pub solved-keeps : (e : State) → solved T y S ≡ stopped e → P (e .inner .point)
+  unfolding solved run
+  solved-keeps e = go (all (usableAt T) (T .p))
+    where
+      go : (b : Bool) → pick b (upto (turn T y S) (S .iterations + 1) (start T S)) bad ≡ stopped e → P (e .inner .point)
+      go true r = rw r at (turns-keep (S .iterations + 1))
+      go false r = absurd (stopped≢bad (sym r))
