@@ -348,9 +348,10 @@ pub fn read(
     starts: &mut [u32],
     rows: &mut [u32],
 ) -> Parsed
-    ensures { λ r. ⌜ (call.parsedOf r ≡ call.readCall (now (file .entry)) (call.places (now (targets .entry)) (now (values .entry)) (now (starts .entry)) (now (rows .entry))))
-        × (call.places (now (targets .exit)) (now (values .exit)) (now (starts .exit)) (now (rows .exit)) ≡ call.readLeft (now (file .entry)) (call.places (now (targets .entry)) (now (values .entry)) (now (starts .entry)) (now (rows .entry))))
-        × call.Inside r ⌝ }
+    ensures { λ r. ⌜ (let lent = call.places (now (targets .entry)) (now (values .entry)) (now (starts .entry)) (now (rows .entry)) in
+        (call.parsedOf r ≡ call.readCall (now (file .entry)) lent)
+        × (call.places (now (targets .exit)) (now (values .exit)) (now (starts .exit)) (now (rows .exit)) ≡ call.readLeft (now (file .entry)) lent)
+        × call.Inside r) ⌝ }
 {
     if 49152 < file.len() {
         return refused(9, 49152);

@@ -12,11 +12,14 @@ use Rattle.leaves.specs.Soft.{soft}
 use Rattle.leaves.specs.Penalty.{sumAbs, value, proxL1, prox, excess, violationL1, violation}
 use Rattle.systems.specs.Elimination.{reduced, cleared, clearedBelow, echelon, clearedAbove, backSubstituted, regular, readOff, eliminated, solution, solveCall}
 use Rattle.leaves.specs.declared.penalties.separable.Penalty.the-variants.{L1}
-use Rattle.designs.specs.Design.{dense, laid, dot, squares, lipschitz, dots, prepared, gradientFrom, gradient, squaredError, datafit, moved, finiteAt, movedAll, extrapolated}
+use Rattle.designs.specs.Design.{dense, laid, dot, squares, lipschitz, dots, prepared}
+use Rattle.designs.specs.Design.{gradientFrom, gradient, squaredError, datafit, moved, finiteAt, movedAll, extrapolated}
 use Rattle.designs.specs.declared.Layout.the-variants.{Dense}
 use Rattle.runs.specs.WorkingSet.{support, size, insert, others, workingSet}
-use Rattle.runs.specs.Epoch.{gradientOf, violationOf, known, allKnown, violations, worst, knownIn, worstIn, newWeight, movedBy, movedFinite, fine, visited, visit, visits}
-use Rattle.runs.specs.Extrapolation.{keptNow, entry, systemRow, system, coefficients, combined, candidate, objectiveOf, allFinite, better, chosen, pointOf, extrapolate, due, tried}
+use Rattle.runs.specs.Epoch.{gradientOf, violationOf, known, allKnown, violations, worst, knownIn}
+use Rattle.runs.specs.Epoch.{worstIn, newWeight, movedBy, movedFinite, fine, visited, visit, visits}
+use Rattle.runs.specs.Extrapolation.{keptNow, entry, systemRow, system, coefficients, combined, candidate}
+use Rattle.runs.specs.Extrapolation.{objectiveOf, allFinite, better, chosen, pointOf, extrapolate, due, tried}
 use Rattle.runs.specs.Run.{accelerated, enough, checked, checks, settled, epoch, epochs, State, chosenSet, iteration, turn, start, run}
 use Rattle.runs.specs.Call.{usable, solved, fitted}
 
@@ -32,5 +35,12 @@ takes x z =
     (record { penalty = L1 #0; tolerance = #0; start = 2; iterations = 1; epochs = 3; extrapolate = true; depth = 2 }))
 
 pub off-is-needed : (takes #1 #2 ≡ 0) × (takes (neg #1) (neg #2) ≡ 1)
-unfolding neg add sub mul div lt eq le ofInt ofBits isNan round fsum fsize units odd _and_ _or_ abs signum finite larger put steps upward downward soft sumAbs value proxL1 prox excess violationL1 violation reduced cleared clearedBelow echelon clearedAbove backSubstituted regular readOff eliminated solution solveCall dense laid dot squares lipschitz dots prepared gradientFrom gradient squaredError datafit moved movedAll extrapolated support size insert others workingSet gradientOf violationOf known allKnown violations worst knownIn worstIn newWeight movedBy finiteAt movedFinite fine visited visit visits keptNow entry systemRow system coefficients combined candidate objectiveOf allFinite better chosen pointOf extrapolate due tried accelerated enough checked checks settled epoch epochs chosenSet iteration turn start run usable solved fitted takes
+unfolding
+    neg add sub mul div lt eq le ofInt ofBits isNan round fsum fsize units odd _and_ _or_ abs signum finite larger put steps upward downward
+    soft sumAbs value proxL1 prox excess violationL1 violation reduced cleared clearedBelow echelon clearedAbove backSubstituted regular readOff
+    eliminated solution solveCall dense laid dot squares lipschitz dots prepared gradientFrom gradient squaredError datafit moved movedAll
+    extrapolated support size insert others workingSet gradientOf violationOf known allKnown violations worst knownIn worstIn newWeight movedBy
+    finiteAt movedFinite fine visited visit visits keptNow entry systemRow system coefficients combined candidate objectiveOf allFinite better
+    chosen pointOf extrapolate due tried accelerated enough checked checks settled epoch epochs chosenSet iteration turn start run usable solved
+    fitted takes
 off-is-needed = (refl, refl)

@@ -51,7 +51,8 @@ loop-again c = (
   search needs,
   search needs,
   steps-turn _ _ _ _ _ (c .before .before .before .before .before .before .before .loop .inv .2)
-      (c .before .before .set-weight .ensures ∙ rw (c .before .before .before .combined .ensures, c .before .before .before .before .before .feature-of .ensures)),
+      (c .before .before .set-weight .ensures
+      ∙ rw (c .before .before .before .combined .ensures, c .before .before .before .before .before .feature-of .ensures)),
 )
 
 same-length : tie.Need-same-length Inv-loop μ-loop
