@@ -18,7 +18,12 @@ same-length-2 c = search needs
 
 returns : tie.Need-returns
 unfolding chosenBy
-returns c = rw (← c .before .before .before .before .before .is-better .ensures, c .before .before .before .before .if1 .taken, c .before .before .copy .ensures)
+returns c =
+    rw (
+      ← c .before .before .before .before .before .is-better .ensures,
+      c .before .before .before .before .if1 .taken,
+      c .before .before .copy .ensures,
+    )
 
 copy-requires-2 : tie.Need-copy-requires-2
 copy-requires-2 c κs = search needs
@@ -28,7 +33,12 @@ same-length-3 c = search needs
 
 returns-2 : tie.Need-returns-2
 unfolding chosenBy
-returns-2 c = rw (← c .before .before .before .before .before .is-better .ensures, c .before .before .before .before .if1 .left, c .before .before .copy2 .ensures)
+returns-2 c =
+    rw (
+      ← c .before .before .before .before .before .is-better .ensures,
+      c .before .before .before .before .if1 .left,
+      c .before .before .copy2 .ensures,
+    )
 
 pub choose-spec : {M : Type 1} → statement M
 choose-spec =

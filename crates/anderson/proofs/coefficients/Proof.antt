@@ -48,7 +48,9 @@ loop-again c = (search needs, c .before .loop .inv .1, tab-more _ _ _ _ (c .befo
 
 returns : tie.Need-returns Inv-loop μ-loop
 unfolding coefficients
-returns c = rw (← c .before .before .total .ensures) (filled _ _ _ _ _ _ (c .before .before .before .pre) (c .before .loop .inv .0) (c .loop-test .left) (c .before .loop .inv .2))
+returns c =
+    rw (← c .before .before .total .ensures)
+    (filled _ _ _ _ _ _ (c .before .before .before .pre) (c .before .loop .inv .0) (c .loop-test .left) (c .before .loop .inv .2))
 
 pub coefficients-spec : {M : Type 1} → statement M
 coefficients-spec =

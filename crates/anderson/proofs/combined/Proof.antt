@@ -36,7 +36,9 @@ mul-s-3 : tie.Need-mul-s-3 Inv-loop μ-loop
 mul-s-3 c = let h = sooner _ _ _ _ _ (c .if1 .taken) (c .before .before .before .pre .0) (c .before .before .before .pre .2) in omega arith
 
 shared-slice-read-s : tie.Need-shared-slice-read-s Inv-loop μ-loop
-shared-slice-read-s c = sooner _ _ _ _ _ (c .before .if1 .taken) (c .before .before .before .before .pre .0) (c .before .before .before .before .pre .2)
+shared-slice-read-s c =
+    let entry = c .before .before .before .before in
+    sooner _ _ _ _ _ (c .before .if1 .taken) (entry .pre .0) (entry .pre .2)
 
 add-k : tie.Need-add-k Inv-loop μ-loop
 add-k c = search needs

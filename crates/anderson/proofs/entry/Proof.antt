@@ -31,7 +31,10 @@ loop-less : tie.Need-loop-less Inv-loop μ-loop
 loop-less c = search needs
 
 loop-again : tie.Need-loop-again Inv-loop μ-loop
-loop-again c = (search needs, steps-turn _ _ _ _ _ (c .before .before .before .before .loop .inv .1) (rw (c .before .difference .ensures, c .difference2 .ensures)))
+loop-again c = (
+  search needs,
+  steps-turn _ _ _ _ _ (c .before .before .before .before .loop .inv .1) (rw (c .before .difference .ensures, c .difference2 .ensures)),
+)
 
 returns : tie.Need-returns Inv-loop μ-loop
 unfolding entry

@@ -43,29 +43,33 @@ same-length : tie.Need-same-length
 same-length c = search needs
 
 returns : tie.Need-returns
-returns c = (
-  from-refused _ _ _ _ _ _ _ _ _
-      (kept-read (c .before .before .before .before .before .before .before .before .before .before .before .before .before .before .before .before .args .shape) (c .before .before .before .before .before .before .before .before .before .before .before .before .before .before .before .before .args .depth) _ _ _ (c .before .before .before .before .before .before .before .lay-out .ensures .0) (c .before .before .before .before .before .before .before .lay-out .ensures .1))
-      (c .before .before .before .before .system .ensures)
-      (c .before .before .before .solve-lin-sys .ensures)
-      _ (c .enum-told .given .1),
-  refl,
-  refl,
-)
+returns c =
+    let at-lay-out = c .before .before .before .before .before .before .before in
+    let entry = at-lay-out .before .before .before .before .before .before .before .before .before in (
+      from-refused _ _ _ _ _ _ _ _ _
+          (kept-read (entry .args .shape) (entry .args .depth) _ _ _ (at-lay-out .lay-out .ensures .0) (at-lay-out .lay-out .ensures .1))
+          (c .before .before .before .before .system .ensures)
+          (c .before .before .before .solve-lin-sys .ensures)
+          _ (c .enum-told .given .1),
+      refl,
+      refl,
+    )
 
 same-length-2 : tie.Need-same-length-2
 same-length-2 c = search needs
 
 returns-2 : tie.Need-returns-2
-returns-2 c = (
-  from-singular _ _ _ _ _ _ _ _ _
-      (kept-read (c .before .before .before .before .before .before .before .before .before .before .before .before .before .before .before .before .args .shape) (c .before .before .before .before .before .before .before .before .before .before .before .before .before .before .before .before .args .depth) _ _ _ (c .before .before .before .before .before .before .before .lay-out .ensures .0) (c .before .before .before .before .before .before .before .lay-out .ensures .1))
-      (c .before .before .before .before .system .ensures)
-      (c .before .before .before .solve-lin-sys .ensures)
-      (c .enum-told2 .given .1),
-  refl,
-  refl,
-)
+returns-2 c =
+    let at-lay-out = c .before .before .before .before .before .before .before in
+    let entry = at-lay-out .before .before .before .before .before .before .before .before .before in (
+      from-singular _ _ _ _ _ _ _ _ _
+          (kept-read (entry .args .shape) (entry .args .depth) _ _ _ (at-lay-out .lay-out .ensures .0) (at-lay-out .lay-out .ensures .1))
+          (c .before .before .before .before .system .ensures)
+          (c .before .before .before .solve-lin-sys .ensures)
+          (c .enum-told2 .given .1),
+      refl,
+      refl,
+    )
 
 same-length-3 : tie.Need-same-length-3
 same-length-3 c = search needs
@@ -77,16 +81,22 @@ same-length-5 : tie.Need-same-length-5
 same-length-5 c = search needs
 
 returns-3 : tie.Need-returns-3
-returns-3 c = (
-  from-solved _ _ _ _ _ _ _ _ _
-      (kept-read (c .before .before .before .before .before .before .before .before .before .before .before .before .before .before .before .before .before .before .before .before .before .before .before .before .before .before .args .shape) (c .before .before .before .before .before .before .before .before .before .before .before .before .before .before .before .before .before .before .before .before .before .before .before .before .before .before .args .depth) _ _ _ (c .before .before .before .before .before .before .before .before .before .before .before .before .before .before .before .before .before .lay-out .ensures .0) (c .before .before .before .before .before .before .before .before .before .before .before .before .before .before .before .before .before .lay-out .ensures .1))
-      (c .before .before .before .before .before .before .before .before .before .before .before .before .before .before .system .ensures)
-      (c .before .before .before .before .before .before .before .before .before .before .before .before .before .solve-lin-sys .ensures)
-      (c .before .before .before .before .before .before .before .before .before .before .enum-told3 .given .1)
-      _ (c .before .before .before .before .before .before .try-candidate .ensures .0),
-  c .before .before .before .before .before .before .try-candidate .ensures .1,
-  c .before .before .before .before .before .before .try-candidate .ensures .2,
-)
+returns-3 c =
+    let at-try-candidate = c .before .before .before .before .before .before in
+    let at-enum-told3 = at-try-candidate .before .before .before .before in
+    let at-solve-lin-sys = at-enum-told3 .before .before .before in
+    let at-system = at-solve-lin-sys .before in
+    let at-lay-out = at-system .before .before .before in
+    let entry = at-lay-out .before .before .before .before .before .before .before .before .before in (
+      from-solved _ _ _ _ _ _ _ _ _
+          (kept-read (entry .args .shape) (entry .args .depth) _ _ _ (at-lay-out .lay-out .ensures .0) (at-lay-out .lay-out .ensures .1))
+          (at-system .system .ensures)
+          (at-solve-lin-sys .solve-lin-sys .ensures)
+          (at-enum-told3 .enum-told3 .given .1)
+          _ (at-try-candidate .try-candidate .ensures .0),
+      at-try-candidate .try-candidate .ensures .1,
+      at-try-candidate .try-candidate .ensures .2,
+    )
 
 pub extrapolate-spec : {M : Type 1} → statement M
 extrapolate-spec =

@@ -17,14 +17,22 @@ all-finite-requires c κs = search needs
 
 returns-2 : tie.Need-returns-2
 unfolding _and_ allFinite
-returns-2 c = rw (← c .before .before .before .objective .ensures, c .before .before .if1 .taken, ← c .before .all-finite .ensures, c .if2 .left)
+returns-2 c =
+    rw (← c .before .before .before .objective .ensures, c .before .before .if1 .taken, ← c .before .all-finite .ensures, c .if2 .left)
 
 all-finite-requires-2 : tie.Need-all-finite-requires-2
 all-finite-requires-2 c κs = search needs
 
 returns-3 : tie.Need-returns-3
 unfolding _and_ allFinite
-returns-3 c = rw (← c .before .before .before .before .objective .ensures, c .before .before .before .if1 .taken, ← c .before .before .all-finite .ensures, c .before .if2 .taken, c .all-finite2 .ensures)
+returns-3 c =
+    rw (
+      ← c .before .before .before .before .objective .ensures,
+      c .before .before .before .if1 .taken,
+      ← c .before .before .all-finite .ensures,
+      c .before .if2 .taken,
+      c .all-finite2 .ensures,
+    )
 
 pub is-better-spec : {M : Type 1} → statement M
 is-better-spec =

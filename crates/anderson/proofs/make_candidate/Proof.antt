@@ -44,11 +44,19 @@ write-candidate-requires c κs = (
   search needs,
   c .before .before .before .before .before .before .before .before .before .before .before .before .before .before .before .pre .few,
   c .before .before .before .before .before .before .before .before .before .before .before .before .before .before .before .pre .shallow,
-  kept-long (c .before .before .before .before .before .before .before .before .before .before .before .before .before .before .before .args .shape) (c .before .before .before .before .before .before .before .before .before .before .before .before .before .before .before .args .depth) _ _ _ (c .before .before .before .before .before .before .before .before .lay-out .ensures .1) (search needs),
+  kept-long
+      (c .before .before .before .before .before .before .before .before .before .before .before .before .before .before .before .args .shape)
+      (c .before .before .before .before .before .before .before .before .before .before .before .before .before .before .before .args .depth)
+      _ _ _ (c .before .before .before .before .before .before .before .before .lay-out .ensures .1) (search needs),
 )
 
 mul-extrapolated-fit : tie.Need-mul-extrapolated-fit
-mul-extrapolated-fit c = let h = places-small _ _ (c .before .before .before .before .before .before .before .before .before .before .before .before .before .before .before .before .before .before .before .pre .shallow) (c .before .before .before .before .before .before .before .before .before .before .before .before .before .before .before .before .before .before .before .pre .features) in omega arith
+mul-extrapolated-fit c =
+    let h = places-small _ _
+    (c .before .before .before .before .before .before .before .before .before .before .before .before .before .before .before .before .before .before .before .pre .shallow)
+    (c .before .before .before .before .before .before .before .before .before .before .before .before .before .before .before .before .before .before .before .pre .features)
+    in
+    omega arith
 
 sub-extrapolated-fit : tie.Need-sub-extrapolated-fit
 sub-extrapolated-fit c = search needs
@@ -64,7 +72,9 @@ extrapolated-fit-requires c κs = (
   c .before .before .before .before .before .before .before .before .before .before .before .before .before .before .before .before .before .before .before .before .pre .below,
   c .before .before .before .before .before .before .before .before .before .before .before .before .before .before .before .before .before .before .before .before .pre .whole,
   search needs,
-  part-long _ _ _ _ (c .before .before .before .before .before .before .before .before .before .before .before .before .before .lay-out .ensures .4) (search needs),
+  part-long _ _ _ _
+      (c .before .before .before .before .before .before .before .before .before .before .before .before .before .lay-out .ensures .4)
+      (search needs),
 )
 
 same-length : tie.Need-same-length
@@ -75,10 +85,13 @@ same-length-2 c = search needs
 
 returns : tie.Need-returns
 returns c =
+    let at-copy = c .before .before .before .before .before .before .before .before .before .before .before .before .before in
+    let at-lay-out = at-copy .before .before .before in
+    let entry = at-lay-out .before .before .before .before .before .before .before in
     made _ _ _ _ _ _ _ _ _ _ _ _ _ _ _ _ _
-    (c .before .before .before .before .before .before .before .before .before .before .before .before .before .before .before .before .before .before .before .before .before .before .before .pre)
-    (c .before .before .before .before .before .before .before .before .before .before .before .before .before .before .before .before .lay-out .ensures)
-    (c .before .before .before .before .before .before .before .before .before .before .before .before .before .copy .ensures)
+    (entry .pre)
+    (at-lay-out .lay-out .ensures)
+    (at-copy .copy .ensures)
     (c .before .before .before .before .before .before .before .write-candidate .ensures)
     (c .before .before .extrapolated-fit .ensures)
     (c .before .before .extrapolated-fit .kept .1 .1 .1 .1 .1 .1 .0)

@@ -37,11 +37,17 @@ loop-less : tie.Need-loop-less Inv-loop μ-loop
 loop-less c = search needs
 
 loop-again : tie.Need-loop-again Inv-loop μ-loop
-loop-again c = (search needs, c .before .before .before .loop .inv .1, tab-more _ _ _ _ (c .before .before .before .loop .inv .2) _ (omega arith) (c .system-row .ensures))
+loop-again c = (
+  search needs,
+  c .before .before .before .loop .inv .1,
+  tab-more _ _ _ _ (c .before .before .before .loop .inv .2) _ (omega arith) (c .system-row .ensures),
+)
 
 returns : tie.Need-returns Inv-loop μ-loop
 unfolding system steps
-returns c = filled _ _ _ _ _ _ (c .before .before .before .before .pre .1) (c .before .before .loop .inv .0) (c .if1 .left) (c .before .before .loop .inv .2)
+returns c =
+    filled _ _ _ _ _ _ (c .before .before .before .before .pre .1) (c .before .before .loop .inv .0) (c .if1 .left)
+    (c .before .before .loop .inv .2)
 
 pub system-spec : {M : Type 1} → statement M
 system-spec =

@@ -37,7 +37,8 @@ loop-less : tie.Need-loop-less Inv-loop μ-loop
 loop-less c = search needs
 
 loop-again : tie.Need-loop-again Inv-loop μ-loop
-loop-again c = (search needs, c .before .before .loop .inv .1, tab-more _ _ _ _ (c .before .before .loop .inv .2) _ (omega arith) (c .entry .ensures))
+loop-again c =
+    (search needs, c .before .before .loop .inv .1, tab-more _ _ _ _ (c .before .before .loop .inv .2) _ (omega arith) (c .entry .ensures))
 
 mul-row-2 : tie.Need-mul-row-2 Inv-loop μ-loop
 mul-row-2 c = search needs

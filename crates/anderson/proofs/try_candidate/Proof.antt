@@ -19,7 +19,12 @@ make-candidate-requires : tie.Need-make-candidate-requires
 make-candidate-requires c κs = search needs
 
 mul-choose : tie.Need-mul-choose
-mul-choose c = let h = places-small _ _ (c .before .before .before .before .before .before .before .before .before .before .before .before .before .before .before .before .before .before .before .before .pre .sized .shallow) (c .before .before .before .before .before .before .before .before .before .before .before .before .before .before .before .before .before .before .before .before .pre .sized .features) in omega arith
+mul-choose c =
+    let h = places-small _ _
+    (c .before .before .before .before .before .before .before .before .before .before .before .before .before .before .before .before .before .before .before .before .pre .sized .shallow)
+    (c .before .before .before .before .before .before .before .before .before .before .before .before .before .before .before .before .before .before .before .before .pre .sized .features)
+    in
+    omega arith
 
 sub-choose : tie.Need-sub-choose
 sub-choose c = search needs
@@ -31,7 +36,12 @@ part-choose-end : tie.Need-part-choose-end
 part-choose-end c = search needs
 
 mul-choose-2 : tie.Need-mul-choose-2
-mul-choose-2 c = let h = places-small _ _ (c .before .before .before .before .before .before .before .before .before .before .before .before .before .before .before .before .before .before .before .before .before .before .pre .sized .shallow) (c .before .before .before .before .before .before .before .before .before .before .before .before .before .before .before .before .before .before .before .before .before .before .pre .sized .features) in omega arith
+mul-choose-2 c =
+    let h = places-small _ _
+    (c .before .before .before .before .before .before .before .before .before .before .before .before .before .before .before .before .before .before .before .before .before .before .pre .sized .shallow)
+    (c .before .before .before .before .before .before .before .before .before .before .before .before .before .before .before .before .before .before .before .before .before .before .pre .sized .features)
+    in
+    omega arith
 
 sub-choose-2 : tie.Need-sub-choose-2
 sub-choose-2 c = search needs
@@ -40,18 +50,25 @@ part-choose-start-2 : tie.Need-part-choose-start-2
 part-choose-start-2 c = search needs
 
 part-choose-end-2 : tie.Need-part-choose-end-2
-part-choose-end-2 c = search (needs, c .before .before .before .before .before .before .before .before .before .before .before .before .before .before .before .before .before .before .before .before .before .before .pre .sized .room)
+part-choose-end-2 c =
+    search (
+      needs,
+      c .before .before .before .before .before .before .before .before .before .before .before .before .before .before .before .before .before .before .before .before .before .before .pre .sized .room,
+    )
 
 choose-requires : tie.Need-choose-requires
 choose-requires c κs =
+    let at-make-candidate = c .before .before .before .before .before .before .before .before .before in
+    let at-lay-out = at-make-candidate .before .before .before .before .before .before .before in
+    let entry = at-lay-out .before .before .before .before .before .before .before .before .before in
     choose-asks _ _ _ _ _ _ _ _ _ _
-    (c .before .before .before .before .before .before .before .before .before .make-candidate .last .1 .1 .1 .1 .1 .1 .1 .0)
-    (c .before .before .before .before .before .before .before .before .before .make-candidate .last .1 .1 .1 .1 .1 .1 .1 .1 .0)
+    (at-make-candidate .make-candidate .last .1 .1 .1 .1 .1 .1 .1 .0)
+    (at-make-candidate .make-candidate .last .1 .1 .1 .1 .1 .1 .1 .1 .0)
     _ _ _ _ _
-    (c .before .before .before .before .before .before .before .before .before .before .before .before .before .before .before .before .before .before .before .before .before .before .before .before .before .pre)
-    (c .before .before .before .before .before .before .before .before .before .before .before .before .before .before .before .before .lay-out .ensures)
-    (c .before .before .before .before .before .before .before .before .before .make-candidate .kept .1 .1 .1 .1 .1 .1 .1 .0)
-    (c .before .before .before .before .before .before .before .before .before .make-candidate .kept .1 .1 .1 .1 .1 .1 .1 .1 .0)
+    (entry .pre)
+    (at-lay-out .lay-out .ensures)
+    (at-make-candidate .make-candidate .kept .1 .1 .1 .1 .1 .1 .1 .0)
+    (at-make-candidate .make-candidate .kept .1 .1 .1 .1 .1 .1 .1 .1 .0)
 
 same-length : tie.Need-same-length
 same-length c = search needs
@@ -64,12 +81,18 @@ same-length-3 c = search needs
 
 returns : tie.Need-returns
 returns c =
+    let at-make-candidate =
+    c .before .before .before .before .before .before .before .before .before .before .before .before .before .before in
+    let at-objective = at-make-candidate .before .before .before in
+    let at-coefficients = at-objective .before .before .before in
+    let at-lay-out = at-coefficients .before in
+    let entry = at-lay-out .before .before .before .before .before .before .before .before .before in
     chosen-here _ _ _ _ _ _ _ _ _ _ _ _ _ _ _ _ _ _ _ _ _ _
-    (c .before .before .before .before .before .before .before .before .before .before .before .before .before .before .before .before .before .before .before .before .before .before .before .before .before .before .before .before .before .before .pre)
-    (c .before .before .before .before .before .before .before .before .before .before .before .before .before .before .before .before .before .before .before .before .before .lay-out .ensures)
-    (c .before .before .before .before .before .before .before .before .before .before .before .before .before .before .make-candidate .ensures)
-    (c .before .before .before .before .before .before .before .before .before .before .before .before .before .before .before .before .before .objective .ensures)
-    (c .before .before .before .before .before .before .before .before .before .before .before .before .before .before .before .before .before .before .before .before .coefficients .ensures)
+    (entry .pre)
+    (at-lay-out .lay-out .ensures)
+    (at-make-candidate .make-candidate .ensures)
+    (at-objective .objective .ensures)
+    (at-coefficients .coefficients .ensures)
     (c .before .before .before .before .choose .ensures)
 
 pub try-candidate-spec : {M : Type 1} → statement M

@@ -60,8 +60,9 @@ same-length c = search needs
 
 returns : tie.Need-returns Inv-loop μ-loop
 returns c =
+    let entry = c .before .before .before .before .before .before .before .before .before in
     candidate-done _ _ _ _ _ _ _ _ _ (c .before .before .before .before .clear .ensures)
-    (c .before .before .before .before .before .before .before .before .before .pre .1)
+    (entry .pre .1)
     (c .before .loop .inv .2)
     (c .before .loop .inv .0)
     (c .loop-test .left)

@@ -58,20 +58,43 @@ slice-aggregate-fit-listing-4 : tie.Need-slice-aggregate-fit-listing-4
 slice-aggregate-fit-listing-4 c = search needs
 
 fit-listing-requires : tie.Need-fit-listing-requires
-fit-listing-requires c κs = own-places (c .before .before .before .before .before .before .problem .given .0 .0) (c .before .before .before .before .before .before .before .before .before .before .before .before .read .last .1 .0) (c .before .before .before .before .before .before .before .before .before .before .before .before .read .last .1 .1 .0) (c .before .before .before .before .before .before .before .before .before .before .before .before .read .last .1 .1 .1 .0) (c .before .before .before .before .before .before .before .before .before .before .before .before .read .last .1 .1 .1 .1 .0) #0 (c .before .before .before .before .before .before .before .before .before .before .before .before .read .kept .1 .0) (c .before .before .before .before .before .before .before .before .before .before .before .before .read .kept .1 .1 .0) (c .before .before .before .before .before .before .before .before .before .before .before .before .read .kept .1 .1 .1 .0) (c .before .before .before .before .before .before .before .before .before .before .before .before .read .kept .1 .1 .1 .1 .0) (rw (c .before .before .before .before .before .before .problem .given .1) at (c .before .before .before .before .before .before .before .before .before .before .before .before .read .ensures .2))
+fit-listing-requires c κs =
+    let at-problem = c .before .before .before .before .before .before in
+    let at-read = at-problem .before .before .before .before .before .before in
+    own-places (at-problem .problem .given .0 .0) (at-read .read .last .1 .0) (at-read .read .last .1 .1 .0)
+    (at-read .read .last .1 .1 .1 .0) (at-read .read .last .1 .1 .1 .1 .0) #0 (at-read .read .kept .1 .0) (at-read .read .kept .1 .1 .0)
+    (at-read .read .kept .1 .1 .1 .0) (at-read .read .kept .1 .1 .1 .1 .0)
+    (rw (at-problem .problem .given .1) at (at-read .read .ensures .2))
 
 same-length : tie.Need-same-length
 same-length c = search needs
 
 returns : tie.Need-returns
-returns c = let e = refusal-printed _ _ _ _ _ (now (c .before .before .before .before .before .before .before .before .before .before .before .before .before .before .before .before .before .before .before .before .args .out)) _ _ (read-refused _ _ (own-room _) _ _ (sym (ap parsedOf (c .before .before .before .before .before .before .before .r .given .1)) ∙ c .before .before .before .before .before .before .before .before .before .before .before .before .before .read .ensures .0)) (omega arith) (omega arith) (c .before .before .write-listing .ensures .0) (c .before .before .write-listing .ensures .1) in
+returns c =
+    let e = refusal-printed _ _ _ _ _
+    (now
+    (c .before .before .before .before .before .before .before .before .before .before .before .before .before .before .before .before .before .before .before .before .args .out))
+    _ _
+    (read-refused _ _ (own-room _) _ _
+    (sym (ap parsedOf (c .before .before .before .before .before .before .before .r .given .1)) ∙
+    c .before .before .before .before .before .before .before .before .before .before .before .before .before .read .ensures .0))
+    (omega arith) (omega arith) (c .before .before .write-listing .ensures .0) (c .before .before .write-listing .ensures .1) in
     (e .0, e .1, c .before .before .write-listing .ensures .2)
 
 same-length-2 : tie.Need-same-length-2
 same-length-2 c = search needs
 
 returns-2 : tie.Need-returns-2
-returns-2 c = let e = fit-printed _ _ (now (c .before .before .before .before .before .before .before .before .before .before .before .before .before .before .before .before .before .before .before .before .before .before .args .out)) _ _ (read-problem _ _ (own-room _) _ (places (c .before .before .before .before .before .before .before .before .before .before .before .before .before .before .before .read .last .1 .0) (c .before .before .before .before .before .before .before .before .before .before .before .before .before .before .before .read .last .1 .1 .0) (c .before .before .before .before .before .before .before .before .before .before .before .before .before .before .before .read .last .1 .1 .1 .0) (c .before .before .before .before .before .before .before .before .before .before .before .before .before .before .before .read .last .1 .1 .1 .1 .0)) (sym (ap parsedOf (c .before .before .before .before .before .before .before .before .before .problem .given .1)) ∙ c .before .before .before .before .before .before .before .before .before .before .before .before .before .before .before .read .ensures .0) (c .before .before .before .before .before .before .before .before .before .before .before .before .before .before .before .read .ensures .1)) (c .before .before .fit-listing .ensures .0) (c .before .before .fit-listing .ensures .1) in
+returns-2 c =
+    let at-problem = c .before .before .before .before .before .before .before .before .before in
+    let at-read = at-problem .before .before .before .before .before .before in
+    let entry = at-read .before .before .before .before .before .before .before in
+    let e = fit-printed _ _ (now (entry .args .out)) _ _
+    (read-problem _ _ (own-room _) _
+    (places (at-read .read .last .1 .0) (at-read .read .last .1 .1 .0) (at-read .read .last .1 .1 .1 .0)
+    (at-read .read .last .1 .1 .1 .1 .0))
+    (sym (ap parsedOf (at-problem .problem .given .1)) ∙ at-read .read .ensures .0) (at-read .read .ensures .1))
+    (c .before .before .fit-listing .ensures .0) (c .before .before .fit-listing .ensures .1) in
     (e .0, e .1, c .before .before .fit-listing .ensures .2)
 
 pub answer-spec : {M : Type 1} → statement M

@@ -13,16 +13,24 @@ use Rattle.answers.proofs.fit_listing.Statement.{statement}
 use Rattle.answers.proofs.fit_listing.Tie as tie
 
 slice-aggregate-coordinate-descent : tie.Need-slice-aggregate-coordinate-descent
-slice-aggregate-coordinate-descent c = sym (length-take-le _ _ (c .before .before .before .before .before .before .before .before .pre .starts))
+slice-aggregate-coordinate-descent c =
+    let entry = c .before .before .before .before .before .before .before .before in
+    sym (length-take-le _ _ (entry .pre .starts))
 
 slice-aggregate-coordinate-descent-2 : tie.Need-slice-aggregate-coordinate-descent-2
-slice-aggregate-coordinate-descent-2 c = sym (length-take-le _ _ (c .before .before .before .before .before .before .before .before .before .pre .rows))
+slice-aggregate-coordinate-descent-2 c =
+    let entry = c .before .before .before .before .before .before .before .before .before in
+    sym (length-take-le _ _ (entry .pre .rows))
 
 slice-aggregate-coordinate-descent-3 : tie.Need-slice-aggregate-coordinate-descent-3
-slice-aggregate-coordinate-descent-3 c = sym (length-take-le _ _ (c .before .before .before .before .before .before .before .before .before .before .pre .values))
+slice-aggregate-coordinate-descent-3 c =
+    let entry = c .before .before .before .before .before .before .before .before .before .before in
+    sym (length-take-le _ _ (entry .pre .values))
 
 slice-aggregate-coordinate-descent-4 : tie.Need-slice-aggregate-coordinate-descent-4
-slice-aggregate-coordinate-descent-4 c = sym (length-take-le _ _ (c .before .before .before .before .before .before .before .before .before .before .before .pre .targets))
+slice-aggregate-coordinate-descent-4 c =
+    let entry = c .before .before .before .before .before .before .before .before .before .before .before in
+    sym (length-take-le _ _ (entry .pre .targets))
 
 slice-aggregate-coordinate-descent-5 : tie.Need-slice-aggregate-coordinate-descent-5
 slice-aggregate-coordinate-descent-5 c = search needs
@@ -43,13 +51,27 @@ array-share-prefix-w : tie.Need-array-share-prefix-w
 array-share-prefix-w c = search needs
 
 slice-aggregate-write-listing : tie.Need-slice-aggregate-write-listing
-slice-aggregate-write-listing c = sym (length-take-le _ _ (le-trans (c .before .before .before .before .before .before .before .before .before .before .before .before .before .before .before .before .before .before .before .before .before .pre .features) (le-of-eq (sym (c .before .before .before .before .before .coordinate-descent .kept .1 .1 .1 .1 .1 .1 .0)))))
+slice-aggregate-write-listing c =
+    let entry =
+    c .before .before .before .before .before .before .before .before .before .before .before .before .before .before .before .before .before .before .before .before .before
+    in
+    sym
+    (length-take-le _ _
+    (le-trans (entry .pre .features)
+    (le-of-eq (sym (c .before .before .before .before .before .coordinate-descent .kept .1 .1 .1 .1 .1 .1 .0)))))
 
 array-share-prefix-entries : tie.Need-array-share-prefix-entries
 array-share-prefix-entries c = search needs
 
 slice-aggregate-write-listing-2 : tie.Need-slice-aggregate-write-listing-2
-slice-aggregate-write-listing-2 c = sym (length-take-le _ _ (le-trans (c .before .before .before .before .before .before .before .before .before .before .before .before .before .before .before .before .before .before .before .before .before .before .pre .samples) (le-of-eq (sym (c .before .before .before .before .before .before .coordinate-descent .kept .1 .1 .1 .1 .1 .1 .1 .0)))))
+slice-aggregate-write-listing-2 c =
+    let entry =
+    c .before .before .before .before .before .before .before .before .before .before .before .before .before .before .before .before .before .before .before .before .before .before
+    in
+    sym
+    (length-take-le _ _
+    (le-trans (entry .pre .samples)
+    (le-of-eq (sym (c .before .before .before .before .before .before .coordinate-descent .kept .1 .1 .1 .1 .1 .1 .1 .0)))))
 
 write-listing-requires : tie.Need-write-listing-requires
 write-listing-requires c κs = search needs
@@ -59,9 +81,25 @@ same-length c = search needs
 
 returns : tie.Need-returns
 unfolding fitted left
-returns c = let e = fit-listed (problemIn (c .before .before .before .before .before .before .before .before .before .before .before .before .before .before .before .before .before .before .before .before .before .before .before .before .before .before .args .problem) (now (c .before .before .before .before .before .before .before .before .before .before .before .before .before .before .before .before .before .before .before .before .before .before .before .before .before .before .args .targets)) (now (c .before .before .before .before .before .before .before .before .before .before .before .before .before .before .before .before .before .before .before .before .before .before .before .before .before .before .args .values)) (now (c .before .before .before .before .before .before .before .before .before .before .before .before .before .before .before .before .before .before .before .before .before .before .before .before .before .before .args .starts)) (now (c .before .before .before .before .before .before .before .before .before .before .before .before .before .before .before .before .before .before .before .before .before .before .before .before .before .before .args .rows)))
-    (fitOf (c .before .before .before .before .before .before .before .before .before .before .coordinate-descent .result)) (lent (c .before .before .before .before .before .before .before .before .before .before .coordinate-descent .last .1 .1 .1 .1 .1 .1 .0) (c .before .before .before .before .before .before .before .before .before .before .coordinate-descent .last .1 .1 .1 .1 .1 .1 .1 .0) (c .before .before .before .before .before .before .before .before .before .before .coordinate-descent .last .1 .1 .1 .1 .1 .1 .1 .1 .0) (c .before .before .before .before .before .before .before .before .before .before .coordinate-descent .last .1 .1 .1 .1 .1 .1 .1 .1 .1 .0)) (now (c .before .before .before .before .before .before .before .before .before .before .before .before .before .before .before .before .before .before .before .before .before .before .before .before .before .before .args .out)) _ _ (c .before .before .before .before .before .before .before .before .before .before .coordinate-descent .ensures .0) (c .before .before .before .before .before .before .before .before .before .before .coordinate-descent .ensures .1)
-    (le-trans (c .before .before .before .before .before .before .before .before .before .before .before .before .before .before .before .before .before .before .before .before .before .before .before .before .before .before .pre .features) (le-of-eq (sym (c .before .before .before .before .before .before .before .before .before .before .coordinate-descent .kept .1 .1 .1 .1 .1 .1 .0)))) (c .before .before .before .before .before .before .before .before .before .before .before .before .before .before .before .before .before .before .before .before .before .before .before .before .before .before .pre .features) (le-trans (c .before .before .before .before .before .before .before .before .before .before .before .before .before .before .before .before .before .before .before .before .before .before .before .before .before .before .pre .samples) (le-of-eq (sym (c .before .before .before .before .before .before .before .before .before .before .coordinate-descent .kept .1 .1 .1 .1 .1 .1 .1 .0)))) (c .before .before .before .before .before .before .before .before .before .before .before .before .before .before .before .before .before .before .before .before .before .before .before .before .before .before .pre .samples) (c .before .before .write-listing .ensures .0) (c .before .before .write-listing .ensures .1) in
+returns c =
+    let at-coordinate-descent = c .before .before .before .before .before .before .before .before .before .before in
+    let entry =
+    at-coordinate-descent .before .before .before .before .before .before .before .before .before .before .before .before .before .before .before .before
+    in
+    let e = fit-listed
+    (problemIn (entry .args .problem) (now (entry .args .targets)) (now (entry .args .values)) (now (entry .args .starts))
+    (now (entry .args .rows)))
+    (fitOf (at-coordinate-descent .coordinate-descent .result))
+    (lent (at-coordinate-descent .coordinate-descent .last .1 .1 .1 .1 .1 .1 .0)
+    (at-coordinate-descent .coordinate-descent .last .1 .1 .1 .1 .1 .1 .1 .0)
+    (at-coordinate-descent .coordinate-descent .last .1 .1 .1 .1 .1 .1 .1 .1 .0)
+    (at-coordinate-descent .coordinate-descent .last .1 .1 .1 .1 .1 .1 .1 .1 .1 .0))
+    (now (entry .args .out)) _ _ (at-coordinate-descent .coordinate-descent .ensures .0)
+    (at-coordinate-descent .coordinate-descent .ensures .1)
+    (le-trans (entry .pre .features) (le-of-eq (sym (at-coordinate-descent .coordinate-descent .kept .1 .1 .1 .1 .1 .1 .0))))
+    (entry .pre .features)
+    (le-trans (entry .pre .samples) (le-of-eq (sym (at-coordinate-descent .coordinate-descent .kept .1 .1 .1 .1 .1 .1 .1 .0))))
+    (entry .pre .samples) (c .before .before .write-listing .ensures .0) (c .before .before .write-listing .ensures .1) in
     (e .0, e .1, c .before .before .write-listing .ensures .2)
 
 pub fit-listing-spec : {M : Type 1} → statement M

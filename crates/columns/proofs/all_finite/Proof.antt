@@ -29,7 +29,9 @@ is-finite-requires : tie.Need-is-finite-requires Inv-loop μ-loop
 is-finite-requires c κs = search needs
 
 returns : tie.Need-returns Inv-loop μ-loop
-returns c = all-broken _ _ _ (c .before .before .before .before .loop .inv .1) (sym (c .before .is-finite .ensures) ∙ c .if1 .left) (c .before .before .before .loop-test .taken)
+returns c =
+    all-broken _ _ _ (c .before .before .before .before .loop .inv .1) (sym (c .before .is-finite .ensures) ∙ c .if1 .left)
+    (c .before .before .before .loop-test .taken)
 
 add-i : tie.Need-add-i Inv-loop μ-loop
 add-i c = search needs
@@ -38,7 +40,8 @@ loop-less : tie.Need-loop-less Inv-loop μ-loop
 loop-less c = search needs
 
 loop-again : tie.Need-loop-again Inv-loop μ-loop
-loop-again c = (search needs, all-more _ _ (c .before .before .before .before .loop .inv .1) (sym (c .before .is-finite .ensures) ∙ c .if1 .taken))
+loop-again c =
+    (search needs, all-more _ _ (c .before .before .before .before .loop .inv .1) (sym (c .before .is-finite .ensures) ∙ c .if1 .taken))
 
 returns-2 : tie.Need-returns-2 Inv-loop μ-loop
 returns-2 c = steps-all _ _ _ _ _ (c .before .loop .inv .1) (c .before .loop .inv .0) (c .loop-test .left)

@@ -8,13 +8,17 @@ enum-told : tie.Need-enum-told
 enum-told c = search needs
 
 dense-dot-requires : tie.Need-dense-dot-requires
-dense-dot-requires c κs = (c .before .before .before .before .before .before .pre .0, held-dense _ _ _ _ _ _ (c .enum-told .given .1) (c .before .before .before .before .before .before .pre .1), c .before .before .before .before .before .before .pre .2)
+dense-dot-requires c κs =
+    let entry = c .before .before .before .before .before .before in
+    (entry .pre .0, held-dense _ _ _ _ _ _ (c .enum-told .given .1) (entry .pre .1), entry .pre .2)
 
 enum-told-2 : tie.Need-enum-told-2
 enum-told-2 c = search needs
 
 csc-dot-requires : tie.Need-csc-dot-requires
-csc-dot-requires c κs = (c .before .before .before .before .before .before .pre .0, held-csc _ _ _ _ _ _ (c .enum-told2 .given .1) (c .before .before .before .before .before .before .pre .1), c .before .before .before .before .before .before .pre .2)
+csc-dot-requires c κs =
+    let entry = c .before .before .before .before .before .before in
+    (entry .pre .0, held-csc _ _ _ _ _ _ (c .enum-told2 .given .1) (entry .pre .1), entry .pre .2)
 
 returns : tie.Need-returns
 returns c = rw (as-dense _ _ _ _ _ _ (c .before .enum-told .given .1)) (c .dense-dot .ensures)

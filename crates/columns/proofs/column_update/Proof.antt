@@ -8,13 +8,17 @@ enum-told : tie.Need-enum-told
 enum-told c = search needs
 
 dense-update-requires : tie.Need-dense-update-requires
-dense-update-requires c κs = (c .before .before .before .before .before .before .before .pre .0, held-dense _ _ _ _ _ _ (c .before .enum-told .given .1) (c .before .before .before .before .before .before .before .pre .1), c .before .before .before .before .before .before .before .pre .2)
+dense-update-requires c κs =
+    let entry = c .before .before .before .before .before .before .before in
+    (entry .pre .0, held-dense _ _ _ _ _ _ (c .before .enum-told .given .1) (entry .pre .1), entry .pre .2)
 
 enum-told-2 : tie.Need-enum-told-2
 enum-told-2 c = search needs
 
 csc-update-requires : tie.Need-csc-update-requires
-csc-update-requires c κs = (c .before .before .before .before .before .before .before .pre .0, held-csc _ _ _ _ _ _ (c .before .enum-told2 .given .1) (c .before .before .before .before .before .before .before .pre .1), c .before .before .before .before .before .before .before .pre .2)
+csc-update-requires c κs =
+    let entry = c .before .before .before .before .before .before .before in
+    (entry .pre .0, held-csc _ _ _ _ _ _ (c .before .enum-told2 .given .1) (entry .pre .1), entry .pre .2)
 
 same-length : tie.Need-same-length
 same-length c = search needs

@@ -20,7 +20,9 @@ abbrev μ-loop : tie.MeasureT-loop
 μ-loop starts rows values v j start end many s₀ k₀ s k = many - k
 
 below : (c : tie.In-loop Inv-loop μ-loop) → getD (now (c .before .before .before .before .before .before .before .before .args .rows)) (getD (now (c .before .before .before .before .before .before .before .before .args .starts)) (c .before .before .before .before .before .before .before .before .args .feature .0) 0 + c .before .loop .k) 0 < c .before .before .before .before .before .before .before .before .args .shape .n
-below c = row-below (c .before .before .before .before .before .before .before .before .pre .1) (c .before .before .before .before .before .before .before .before .args .feature .0) (c .before .before .before .before .before .before .before .before .pre .0) (c .before .loop .k) (c .loop-test .taken)
+below c =
+    let entry = c .before .before .before .before .before .before .before .before in
+    row-below (entry .pre .1) (entry .args .feature .0) (entry .pre .0) (c .before .loop .k) (c .loop-test .taken)
 
 mul-start : tie.Need-mul-start Inv-loop μ-loop
 mul-start c = let e = c .before .before .before .before .pre .1 .columns in omega arith
@@ -44,10 +46,17 @@ cast-end : tie.Need-cast-end Inv-loop μ-loop
 cast-end c = omega (arith, c .shared-slice-known6 .given (c .before .before .before .before .before .before .args .feature .0 + 1))
 
 sub-many : tie.Need-sub-many Inv-loop μ-loop
-sub-many c = c .before .before .before .before .before .before .pre .1 .rising .up _ (c .before .before .before .before .before .before .pre .0)
+sub-many c =
+    let entry = c .before .before .before .before .before .before in
+    entry .pre .1 .rising .up _ (entry .pre .0)
 
 loop-holds : tie.Need-loop-holds Inv-loop μ-loop
-loop-holds c = (search needs, column-end (c .before .before .before .before .before .before .pre .1) _ (c .before .before .before .before .before .before .pre .0), c .before .before .before .before .before .before .pre .1 .entries, steps-none _ _)
+loop-holds c = (
+  search needs,
+  column-end (c .before .before .before .before .before .before .pre .1) _ (c .before .before .before .before .before .before .pre .0),
+  c .before .before .before .before .before .before .pre .1 .entries,
+  steps-none _ _,
+)
 
 add-e : tie.Need-add-e Inv-loop μ-loop
 add-e c = search needs
@@ -71,7 +80,13 @@ loop-less : tie.Need-loop-less Inv-loop μ-loop
 loop-less c = search needs
 
 loop-again : tie.Need-loop-again Inv-loop μ-loop
-loop-again c = (search needs, search needs, search needs, steps-turn _ _ _ _ _ (c .before .before .before .before .loop .inv .3) (rw (c .reading .ensures, c .before .before .sample-of .ensures)))
+loop-again c = (
+  search needs,
+  search needs,
+  search needs,
+  steps-turn _ _ _ _ _ (c .before .before .before .before .loop .inv .3)
+      (rw (c .reading .ensures, c .before .before .sample-of .ensures)),
+)
 
 returns : tie.Need-returns Inv-loop μ-loop
 unfolding dot csc

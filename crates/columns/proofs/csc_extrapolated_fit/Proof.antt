@@ -16,7 +16,10 @@ same-length c = search needs
 
 returns : tie.Need-returns
 unfolding csc
-returns c = from-zeros _ _ _ _ _ _ (c .before .before .before .before .before .before .before .before .before .before .before .before .before .before .pre .3) (c .before .before .before .before .before .before .clear .ensures) (c .before .before .csc-update-all .ensures)
+returns c =
+    let entry = c .before .before .before .before .before .before .before .before .before .before .before .before .before .before in
+    from-zeros _ _ _ _ _ _ (entry .pre .3) (c .before .before .before .before .before .before .clear .ensures)
+    (c .before .before .csc-update-all .ensures)
 
 pub csc-extrapolated-fit-spec : {M : Type 1} → statement M
 csc-extrapolated-fit-spec =

@@ -25,7 +25,8 @@ below : (c : tie.After-sample-of Inv-loop μ-loop)
     → c .sample-of .result .0 < c .before .before .before .before .before .before .before .before .before .args .shape .n
 below c =
     let entry = c .before .before .before .before .before .before .before .before .before in
-    let e = row-below (entry .pre .1) (entry .args .feature .0) (entry .pre .0) (c .before .before .loop .k) (c .before .loop-test .taken) in
+    let e = row-below (entry .pre .1) (entry .args .feature .0) (entry .pre .0) (c .before .before .loop .k) (c .before .loop-test .taken)
+    in
     let q = c .sample-of .ensures in
     omega arith
 
@@ -74,7 +75,8 @@ returns : tie.Need-returns Inv-loop μ-loop
 unfolding finiteAt csc
 returns c =
     all-broken _ _ _ (c .before .before .before .before .before .loop .inv .3)
-    (rw (← c .before .before .before .sample-of .ensures, ← c .before .before .reading .ensures, ← c .before .is-finite .ensures) (c .if1 .left))
+    (rw (← c .before .before .before .sample-of .ensures, ← c .before .before .reading .ensures, ← c .before .is-finite .ensures)
+    (c .if1 .left))
     (c .before .before .before .before .loop-test .taken)
 
 add-k : tie.Need-add-k Inv-loop μ-loop

@@ -26,7 +26,8 @@ below : (c : tie.After-sample-of Inv-loop μ-loop)
     → c .sample-of .result .0 < c .before .before .before .before .before .before .before .before .before .args .shape .n
 below c =
     let entry = c .before .before .before .before .before .before .before .before .before in
-    let e = row-below (entry .pre .1) (entry .args .feature .0) (entry .pre .0) (c .before .before .loop .k) (c .before .loop-test .taken) in
+    let e = row-below (entry .pre .1) (entry .args .feature .0) (entry .pre .0) (c .before .before .loop .k) (c .before .loop-test .taken)
+    in
     let q = c .sample-of .ensures in
     omega arith
 
@@ -91,7 +92,8 @@ loop-again c = (
   search needs,
   steps-turn _ _ _ _ _ (c .before .before .before .before .before .before .before .before .before .loop .inv .4)
       (c .before .before .set-reading .ensures
-      ∙ rw (c .before .before .before .before .reading .ensures, c .before .before .before .before .before .before .before .sample-of .ensures)),
+      ∙ rw
+      (c .before .before .before .before .reading .ensures, c .before .before .before .before .before .before .before .sample-of .ensures)),
 )
 
 same-length : tie.Need-same-length Inv-loop μ-loop

@@ -56,7 +56,8 @@ loop-less : tie.Need-loop-less Inv-loop μ-loop
 loop-less c = search needs
 
 loop-again : tie.Need-loop-again Inv-loop μ-loop
-loop-again c = (search needs, search needs, search needs, search needs, search needs, steps-more _ _ _ _ (c .before .before .before .loop .inv .5))
+loop-again c =
+    (search needs, search needs, search needs, search needs, search needs, steps-more _ _ _ _ (c .before .before .before .loop .inv .5))
 
 same-length : tie.Need-same-length Inv-loop μ-loop
 same-length c = search needs

@@ -9,25 +9,37 @@ enum-told : tie.Need-enum-told
 enum-told c = search needs
 
 dense-extrapolated-fit-requires : tie.Need-dense-extrapolated-fit-requires
-dense-extrapolated-fit-requires c κs = (λ k h. rw (c .before .before .before .before .before .before .before .before .before .pre .2) (c .before .before .before .before .before .before .before .before .before .pre .0 k h), room-sized (c .before .before .before .before .before .before .before .before .before .pre .3) (c .before .before .before .before .before .before .before .before .before .pre .2) _ (held-dense _ _ _ _ _ _ (c .before .enum-told .given .1) (c .before .before .before .before .before .before .before .before .before .pre .1)))
+dense-extrapolated-fit-requires c κs =
+    let entry = c .before .before .before .before .before .before .before .before .before in (
+      λ k h.
+          rw (entry .pre .2) (entry .pre .0 k h),
+      room-sized (entry .pre .3) (entry .pre .2) _
+          (held-dense _ _ _ _ _ _ (c .before .enum-told .given .1) (entry .pre .1)),
+    )
 
 enum-told-2 : tie.Need-enum-told-2
 enum-told-2 c = search needs
 
 csc-extrapolated-fit-requires : tie.Need-csc-extrapolated-fit-requires
-csc-extrapolated-fit-requires c κs = (c .before .before .before .before .before .before .before .before .before .pre .0, held-csc _ _ _ _ _ _ (c .before .enum-told2 .given .1) (c .before .before .before .before .before .before .before .before .before .pre .1), c .before .before .before .before .before .before .before .before .before .pre .2, c .before .before .before .before .before .before .before .before .before .pre .3)
+csc-extrapolated-fit-requires c κs =
+    let entry = c .before .before .before .before .before .before .before .before .before in
+    (entry .pre .0, held-csc _ _ _ _ _ _ (c .before .enum-told2 .given .1) (entry .pre .1), entry .pre .2, entry .pre .3)
 
 same-length : tie.Need-same-length
 same-length c = search needs
 
 returns : tie.Need-returns
-returns c = rw (as-dense _ _ _ _ _ _ (c .before .before .before .before .enum-told .given .1), ← dense-sized (c .before .before .before .before .before .before .before .before .before .before .before .before .pre .3) (c .before .before .before .before .before .before .before .before .before .before .before .before .pre .2)) (c .before .before .dense-extrapolated-fit .ensures)
+returns c =
+    let entry = c .before .before .before .before .before .before .before .before .before .before .before .before in
+    rw (as-dense _ _ _ _ _ _ (c .before .before .before .before .enum-told .given .1), ← dense-sized (entry .pre .3) (entry .pre .2))
+    (c .before .before .dense-extrapolated-fit .ensures)
 
 same-length-2 : tie.Need-same-length-2
 same-length-2 c = search needs
 
 returns-2 : tie.Need-returns-2
-returns-2 c = rw (as-csc _ _ _ _ _ _ (c .before .before .before .before .enum-told2 .given .1)) (c .before .before .csc-extrapolated-fit .ensures)
+returns-2 c =
+    rw (as-csc _ _ _ _ _ _ (c .before .before .before .before .enum-told2 .given .1)) (c .before .before .csc-extrapolated-fit .ensures)
 
 pub extrapolated-fit-spec : {M : Type 1} → statement M
 extrapolated-fit-spec =

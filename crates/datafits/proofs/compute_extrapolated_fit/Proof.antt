@@ -31,18 +31,39 @@ enum-told : tie.Need-enum-told
 enum-told c = search needs
 
 compute-extrapolated-fit-requires : tie.Need-compute-extrapolated-fit-requires
-compute-extrapolated-fit-requires c κs = let a = admits _ _ _ _ _ _ _ (sym (pass _ (c .before .before .before .admit .ensures) (c .before .enum-told .given .1))) in let q = and-both _ _ (sym (c .before .before .before .before .before .both2 .ensures) ∙ a .roomy) in let s = and-both _ _ (sym (c .before .before .before .before .before .before .before .before .both .ensures) ∙ a .fit) in (each-below _ _ (sym (c .before .before .before .before .before .before .before .before .before .all-below .ensures) ∙ s .1), a .whole, leb-true _ _ (q .0), leb-true _ _ (q .1))
+compute-extrapolated-fit-requires c κs =
+    let at-both = c .before .before .before .before .before .before .before .before in
+    let at-all-below = at-both .before in
+    let a = admits _ _ _ _ _ _ _ (sym (pass _ (c .before .before .before .admit .ensures) (c .before .enum-told .given .1))) in
+    let q = and-both _ _ (sym (c .before .before .before .before .before .both2 .ensures) ∙ a .roomy) in
+    let s = and-both _ _ (sym (at-both .both .ensures) ∙ a .fit) in
+    (each-below _ _ (sym (at-all-below .all-below .ensures) ∙ s .1), a .whole, leb-true _ _ (q .0), leb-true _ _ (q .1))
 
 returns : tie.Need-returns
 unfolding extrapolatedFault extrapolatedFit
-returns c = rw (← c .before .before .before .before .before .before .before .before .before .all-below .ensures, ← c .before .before .before .before .before .before .before .before .both .ensures, ← c .before .before .before .before .before .both2 .ensures) (stop _ (c .before .before .before .admit .ensures) _ (c .before .r .given .1), stop-left _ (c .before .before .before .admit .ensures) _ _ _ (c .before .r .given .1))
+returns c =
+    let at-admit = c .before .before .before in
+    let at-both = at-admit .before .before .before .before .before in
+    let at-all-below = at-both .before in
+    rw (← at-all-below .all-below .ensures, ← at-both .both .ensures, ← c .before .before .before .before .before .both2 .ensures)
+    (stop _ (at-admit .admit .ensures) _ (c .before .r .given .1), stop-left _ (at-admit .admit .ensures) _ _ _ (c .before .r .given .1))
 
 same-length : tie.Need-same-length
 same-length c = search needs
 
 returns-2 : tie.Need-returns-2
 unfolding extrapolatedFault extrapolatedFit
-returns-2 c = rw (← c .before .before .before .before .before .before .before .before .before .before .before .before .all-below .ensures, ← c .before .before .before .before .before .before .before .before .before .before .before .both .ensures, ← c .before .before .before .before .before .before .before .before .both2 .ensures) (pass _ (c .before .before .before .before .before .before .admit .ensures) (c .before .before .before .before .enum-told .given .1), pass-left _ (c .before .before .before .before .before .before .admit .ensures) _ _ _ (c .before .before .before .before .enum-told .given .1) (c .before .before .compute-extrapolated-fit .ensures))
+returns-2 c =
+    let at-enum-told = c .before .before .before .before in
+    let at-admit = at-enum-told .before .before in
+    let at-both2 = at-admit .before .before in
+    let at-both = at-both2 .before .before .before in
+    let at-all-below = at-both .before in
+    rw (← at-all-below .all-below .ensures, ← at-both .both .ensures, ← at-both2 .both2 .ensures) (
+      pass _ (at-admit .admit .ensures) (at-enum-told .enum-told .given .1),
+      pass-left _ (at-admit .admit .ensures) _ _ _ (at-enum-told .enum-told .given .1)
+          (c .before .before .compute-extrapolated-fit .ensures),
+    )
 
 pub compute-extrapolated-fit-spec : {M : Type 1} → statement M
 compute-extrapolated-fit-spec =

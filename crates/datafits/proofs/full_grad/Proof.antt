@@ -30,18 +30,43 @@ enum-told : tie.Need-enum-told
 enum-told c = search needs
 
 full-grad-requires : tie.Need-full-grad-requires
-full-grad-requires c κs = let a = admits _ _ _ _ _ _ _ (sym (pass _ (c .before .before .before .admit .ensures) (c .before .enum-told .given .1))) in let q = and-both _ _ (sym (c .before .before .before .before .before .both2 .ensures) ∙ a .roomy) in let s = and-both _ _ (sym (c .before .before .before .before .before .before .before .both .ensures) ∙ q .1) in (a .sized .few, leb-true _ _ (sym (c .before .before .before .before .before .before .room-twice .ensures) ∙ q .0), a .whole, leb-true _ _ (s .0), leb-true _ _ (s .1))
+full-grad-requires c κs =
+    let a = admits _ _ _ _ _ _ _ (sym (pass _ (c .before .before .before .admit .ensures) (c .before .enum-told .given .1))) in
+    let q = and-both _ _ (sym (c .before .before .before .before .before .both2 .ensures) ∙ a .roomy) in
+    let s = and-both _ _ (sym (c .before .before .before .before .before .before .before .both .ensures) ∙ q .1) in (
+      a .sized .few,
+      leb-true _ _ (sym (c .before .before .before .before .before .before .room-twice .ensures) ∙ q .0),
+      a .whole,
+      leb-true _ _ (s .0),
+      leb-true _ _ (s .1),
+    )
 
 returns : tie.Need-returns
 unfolding fullGradFault fullGrad
-returns c = rw (← c .before .before .before .before .before .before .room-twice .ensures, ← c .before .before .before .before .before .before .before .both .ensures, ← c .before .before .before .before .before .both2 .ensures) (stop _ (c .before .before .before .admit .ensures) _ (c .before .r .given .1), stop-left _ (c .before .before .before .admit .ensures) _ _ _ (c .before .r .given .1))
+returns c =
+    let at-admit = c .before .before .before in
+    rw (
+      ← c .before .before .before .before .before .before .room-twice .ensures,
+      ← c .before .before .before .before .before .before .before .both .ensures,
+      ← c .before .before .before .before .before .both2 .ensures,
+    )
+    (stop _ (at-admit .admit .ensures) _ (c .before .r .given .1), stop-left _ (at-admit .admit .ensures) _ _ _ (c .before .r .given .1))
 
 same-length : tie.Need-same-length
 same-length c = search needs
 
 returns-2 : tie.Need-returns-2
 unfolding fullGradFault fullGrad
-returns-2 c = rw (← c .before .before .before .before .before .before .before .before .before .room-twice .ensures, ← c .before .before .before .before .before .before .before .before .before .before .both .ensures, ← c .before .before .before .before .before .before .before .before .both2 .ensures) (pass _ (c .before .before .before .before .before .before .admit .ensures) (c .before .before .before .before .enum-told .given .1), pass-left _ (c .before .before .before .before .before .before .admit .ensures) _ _ _ (c .before .before .before .before .enum-told .given .1) (c .before .before .full-grad .ensures))
+returns-2 c =
+    let at-enum-told = c .before .before .before .before in
+    let at-admit = at-enum-told .before .before in
+    let at-both2 = at-admit .before .before in
+    let at-room-twice = at-both2 .before in
+    let at-both = at-room-twice .before in
+    rw (← at-room-twice .room-twice .ensures, ← at-both .both .ensures, ← at-both2 .both2 .ensures) (
+      pass _ (at-admit .admit .ensures) (at-enum-told .enum-told .given .1),
+      pass-left _ (at-admit .admit .ensures) _ _ _ (at-enum-told .enum-told .given .1) (c .before .before .full-grad .ensures),
+    )
 
 pub full-grad-spec : {M : Type 1} → statement M
 full-grad-spec =

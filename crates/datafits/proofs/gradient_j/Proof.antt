@@ -27,15 +27,33 @@ enum-told : tie.Need-enum-told
 enum-told c = search needs
 
 gradient-j-requires : tie.Need-gradient-j-requires
-gradient-j-requires c κs = let a = admits _ _ _ _ _ _ _ (sym (pass _ (c .before .before .admit .ensures) (c .enum-told .given .1))) in let q = and-both _ _ (sym (c .before .before .before .before .both .ensures) ∙ a .roomy) in (ltb-true _ _ (a .fit), a .sized .few, leb-true _ _ (sym (c .before .before .before .before .before .before .room-twice .ensures) ∙ q .0), a .whole, leb-true _ _ (q .1))
+gradient-j-requires c κs =
+    let a = admits _ _ _ _ _ _ _ (sym (pass _ (c .before .before .admit .ensures) (c .enum-told .given .1))) in
+    let q = and-both _ _ (sym (c .before .before .before .before .both .ensures) ∙ a .roomy) in (
+      ltb-true _ _ (a .fit),
+      a .sized .few,
+      leb-true _ _ (sym (c .before .before .before .before .before .before .room-twice .ensures) ∙ q .0),
+      a .whole,
+      leb-true _ _ (q .1),
+    )
 
 returns : tie.Need-returns
 unfolding gradientFault gradientCall
-returns c = rw (← c .before .before .before .before .before .before .before .room-twice .ensures, ← c .before .before .before .before .before .both .ensures) (stop-after _ (c .before .before .before .admit .ensures) _ _ (c .before .r .given .1))
+returns c =
+    rw (
+      ← c .before .before .before .before .before .before .before .room-twice .ensures,
+      ← c .before .before .before .before .before .both .ensures,
+    )
+    (stop-after _ (c .before .before .before .admit .ensures) _ _ (c .before .r .given .1))
 
 returns-2 : tie.Need-returns-2
 unfolding gradientFault gradientCall
-returns-2 c = rw (← c .before .before .before .before .before .before .before .room-twice .ensures, ← c .before .before .before .before .before .both .ensures) (pass-after _ (c .before .before .before .admit .ensures) _ _ (c .before .enum-told .given .1) (c .gradient-j .ensures))
+returns-2 c =
+    rw (
+      ← c .before .before .before .before .before .before .before .room-twice .ensures,
+      ← c .before .before .before .before .before .both .ensures,
+    )
+    (pass-after _ (c .before .before .before .admit .ensures) _ _ (c .before .enum-told .given .1) (c .gradient-j .ensures))
 
 pub gradient-j-spec : {M : Type 1} → statement M
 gradient-j-spec =

@@ -21,21 +21,36 @@ enum-told : tie.Need-enum-told
 enum-told c = search needs
 
 initialize-requires : tie.Need-initialize-requires
-initialize-requires c κs = let a = admits _ _ _ _ _ _ _ (sym (pass _ (c .before .before .before .admit .ensures) (c .before .enum-told .given .1))) in (a .sized .few, leb-true _ _ (sym (c .before .before .before .before .room-twice .ensures) ∙ a .roomy), a .whole, le-of-eq (sym (eqb-true _ _ (a .fit))))
+initialize-requires c κs =
+    let a = admits _ _ _ _ _ _ _ (sym (pass _ (c .before .before .before .admit .ensures) (c .before .enum-told .given .1))) in (
+      a .sized .few,
+      leb-true _ _ (sym (c .before .before .before .before .room-twice .ensures) ∙ a .roomy),
+      a .whole,
+      le-of-eq (sym (eqb-true _ _ (a .fit))),
+    )
 
 same-length : tie.Need-same-length
 same-length c = search needs
 
 returns : tie.Need-returns
 unfolding initializeFault initialized
-returns c = rw (← c .before .before .before .before .room-twice .ensures) (stop _ (c .before .before .before .admit .ensures) _ (c .before .r .given .1), stop-left _ (c .before .before .before .admit .ensures) _ _ _ (c .before .r .given .1))
+returns c =
+    let at-admit = c .before .before .before in
+    rw (← c .before .before .before .before .room-twice .ensures)
+    (stop _ (at-admit .admit .ensures) _ (c .before .r .given .1), stop-left _ (at-admit .admit .ensures) _ _ _ (c .before .r .given .1))
 
 same-length-2 : tie.Need-same-length-2
 same-length-2 c = search needs
 
 returns-2 : tie.Need-returns-2
 unfolding initializeFault initialized
-returns-2 c = rw (← c .before .before .before .before .before .before .before .room-twice .ensures) (pass _ (c .before .before .before .before .before .before .admit .ensures) (c .before .before .before .before .enum-told .given .1), pass-left _ (c .before .before .before .before .before .before .admit .ensures) _ _ _ (c .before .before .before .before .enum-told .given .1) (c .before .before .initialize .ensures))
+returns-2 c =
+    let at-enum-told = c .before .before .before .before in
+    let at-admit = at-enum-told .before .before in
+    rw (← c .before .before .before .before .before .before .before .room-twice .ensures) (
+      pass _ (at-admit .admit .ensures) (at-enum-told .enum-told .given .1),
+      pass-left _ (at-admit .admit .ensures) _ _ _ (at-enum-told .enum-told .given .1) (c .before .before .initialize .ensures),
+    )
 
 pub initialize-spec : {M : Type 1} → statement M
 initialize-spec =

@@ -20,18 +20,27 @@ enum-told : tie.Need-enum-told
 enum-told c = search needs
 
 column-update-requires : tie.Need-column-update-requires
-column-update-requires c κs = let a = admits _ _ _ _ _ _ _ (sym (pass _ (c .before .before .before .admit .ensures) (c .before .enum-told .given .1))) in (ltb-true _ _ (a .fit), a .whole, leb-true _ _ (a .roomy))
+column-update-requires c κs =
+    let a = admits _ _ _ _ _ _ _ (sym (pass _ (c .before .before .before .admit .ensures) (c .before .enum-told .given .1))) in
+    (ltb-true _ _ (a .fit), a .whole, leb-true _ _ (a .roomy))
 
 returns : tie.Need-returns
 unfolding updateFault updated
-returns c = (stop _ (c .before .before .before .admit .ensures) _ (c .before .r .given .1), stop-left _ (c .before .before .before .admit .ensures) _ _ _ (c .before .r .given .1))
+returns c =
+    let at-admit = c .before .before .before in
+    (stop _ (at-admit .admit .ensures) _ (c .before .r .given .1), stop-left _ (at-admit .admit .ensures) _ _ _ (c .before .r .given .1))
 
 same-length : tie.Need-same-length
 same-length c = search needs
 
 returns-2 : tie.Need-returns-2
 unfolding updateFault updated
-returns-2 c = (pass _ (c .before .before .before .before .before .before .admit .ensures) (c .before .before .before .before .enum-told .given .1), pass-left _ (c .before .before .before .before .before .before .admit .ensures) _ _ _ (c .before .before .before .before .enum-told .given .1) (c .before .before .column-update .ensures))
+returns-2 c =
+    let at-enum-told = c .before .before .before .before in
+    let at-admit = at-enum-told .before .before in (
+      pass _ (at-admit .admit .ensures) (at-enum-told .enum-told .given .1),
+      pass-left _ (at-admit .admit .ensures) _ _ _ (at-enum-told .enum-told .given .1) (c .before .before .column-update .ensures),
+    )
 
 pub update-model-fit-spec : {M : Type 1} → statement M
 update-model-fit-spec =

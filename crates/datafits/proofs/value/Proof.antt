@@ -27,7 +27,9 @@ refused-requires-3 c κs = search needs
 
 returns-3 : tie.Need-returns-3
 unfolding valueFault valueCall _and_
-returns-3 c = c .refused3 .ensures ∙ rw (le-leb _ _ (c .before .before .before .if1 .left), le-leb _ _ (c .before .before .if2 .left), lt-leb _ _ (c .before .if3 .taken))
+returns-3 c =
+    c .refused3 .ensures ∙ rw
+    (le-leb _ _ (c .before .before .before .if1 .left), le-leb _ _ (c .before .before .if2 .left), lt-leb _ _ (c .before .if3 .taken))
 
 slice-aggregate-check-numbers : tie.Need-slice-aggregate-check-numbers
 slice-aggregate-check-numbers c = search needs
@@ -46,11 +48,23 @@ value-requires c κs = search needs
 
 returns-4 : tie.Need-returns-4
 unfolding valueFault valueCall _and_
-returns-4 c = rw (le-leb _ _ (c .before .before .before .before .before .before .before .if1 .left), le-leb _ _ (c .before .before .before .before .before .before .if2 .left), le-leb _ _ (c .before .before .before .before .before .if3 .left)) (stop-after _ (c .before .before .before .check-numbers .ensures) _ _ (c .before .r .given .1))
+returns-4 c =
+    rw (
+      le-leb _ _ (c .before .before .before .before .before .before .before .if1 .left),
+      le-leb _ _ (c .before .before .before .before .before .before .if2 .left),
+      le-leb _ _ (c .before .before .before .before .before .if3 .left),
+    )
+    (stop-after _ (c .before .before .before .check-numbers .ensures) _ _ (c .before .r .given .1))
 
 returns-5 : tie.Need-returns-5
 unfolding valueFault valueCall _and_
-returns-5 c = rw (le-leb _ _ (c .before .before .before .before .before .before .before .if1 .left), le-leb _ _ (c .before .before .before .before .before .before .if2 .left), le-leb _ _ (c .before .before .before .before .before .if3 .left)) (pass-after _ (c .before .before .before .check-numbers .ensures) _ _ (c .before .enum-told .given .1) (c .value .ensures))
+returns-5 c =
+    rw (
+      le-leb _ _ (c .before .before .before .before .before .before .before .if1 .left),
+      le-leb _ _ (c .before .before .before .before .before .before .if2 .left),
+      le-leb _ _ (c .before .before .before .before .before .if3 .left),
+    )
+    (pass-after _ (c .before .before .before .check-numbers .ensures) _ _ (c .before .enum-told .given .1) (c .value .ensures))
 
 pub value-spec : {M : Type 1} → statement M
 value-spec =

@@ -51,10 +51,12 @@ returns-3 : tie.Need-returns-3
 returns-3 c = none _ (sym (ne-self _) ∙ c .if3 .taken)
 
 returns-4 : tie.Need-returns-4
-returns-4 c = level _ true (c .before .before .before .if1 .left) (c .before .before .if2 .left) (sym (ne-self _) ∙ c .before .if3 .left) (c .if4 .taken)
+returns-4 c =
+    level _ true (c .before .before .before .if1 .left) (c .before .before .if2 .left) (sym (ne-self _) ∙ c .before .if3 .left) (c .if4 .taken)
 
 returns-5 : tie.Need-returns-5
-returns-5 c = level _ false (c .before .before .before .if1 .left) (c .before .before .if2 .left) (sym (ne-self _) ∙ c .before .if3 .left) (c .if4 .left)
+returns-5 c =
+    level _ false (c .before .before .before .if1 .left) (c .before .before .if2 .left) (sym (ne-self _) ∙ c .before .if3 .left) (c .if4 .left)
 
 pub signum-spec : {M : Type 1} → statement M
 signum-spec = tie.close (tie.spec returns returns-2 returns-3 returns-4 returns-5)

@@ -51,14 +51,17 @@ same-length-2 c = search needs
 
 returns : tie.Need-returns Inv-loop μ-loop
 returns c =
-    let here = c .before .before .before .before .before .before .before .before in
+    let at-there = c .before .before .before .before .before .before .before .before in
+    let at-loop-test = at-there .before in
+    let at-loop = at-loop-test .before in
+    let here = at-there in
     let a = here .before .before .before .before .before .before .before .before .before .before .args in
     let T = task (a .shape) (now (a .starts)) (now (a .rows)) (now (a .values)) (a .penalty) (now (a .prepared)) in
     let start : Point = record { weights = now (a .w); fit = now (a .fit) } in
-    visits-broken T (now (a .ws)) start _ _ _ _ _ (c .before .before .before .before .before .before .before .before .before .before .loop .inv .3) _
-    (c .before .before .before .before .before .before .before .before .feature-of .ensures)
+    visits-broken T (now (a .ws)) start _ _ _ _ _ (at-loop .loop .inv .3) _
+    (at-there .feature-of .ensures)
     (c .before .before .before .before .before .visit .ensures) (c .if1 .left)
-    (c .before .before .before .before .before .before .before .before .before .loop-test .taken)
+    (at-loop-test .loop-test .taken)
 
 add-i : tie.Need-add-i Inv-loop μ-loop
 add-i c = search needs
@@ -73,7 +76,8 @@ loop-again c =
     let T = task (a .shape) (now (a .starts)) (now (a .rows)) (now (a .values)) (a .penalty) (now (a .prepared)) in
     let start : Point = record { weights = now (a .w); fit = now (a .fit) } in
     let more =
-    visits-more T (now (a .ws)) start _ _ _ _ _ (c .before .before .before .before .before .before .before .before .before .before .loop .inv .3) _
+    visits-more T (now (a .ws)) start _ _ _ _ _
+    (c .before .before .before .before .before .before .before .before .before .before .loop .inv .3) _
     (c .before .before .before .before .before .before .before .before .feature-of .ensures)
     (c .before .before .before .before .before .visit .ensures) (c .if1 .taken) in
     (search needs, search needs, search needs, more)

@@ -53,14 +53,16 @@ same-length c = search needs
 
 returns : tie.Need-returns Inv-loop μ-loop
 returns c =
-    let entry = c .before .before .before .before .before .before .before .before .before in
+    let at-loop-test = c .before .before .before .before .before in
+    let at-there = at-loop-test .before .before .before .before in
+    let entry = at-there in
     let passed = c .before .before .before .before .before .before .loop .inv in
     let long = entry .pre .2 in
     let w = now (entry .args .w) in
-    let there = gradient-here _ w _ _ _ _ _ _ _ (passed .2) long (c .before .before .before .before .before .loop-test .taken)
+    let there = gradient-here _ w _ _ _ _ _ _ _ (passed .2) long (at-loop-test .loop-test .taken)
     (c .before .before .before .before .weight .ensures) (c .before .before .violation-at .ensures) in
     finished-bad _ w (now (entry .args .scratch)) _ long (passed .3) _ (passed .2) there (c .enum-told .given .1)
-    (c .before .before .before .before .before .loop-test .taken)
+    (at-loop-test .loop-test .taken)
 
 enum-known-v : tie.Need-enum-known-v Inv-loop μ-loop
 enum-known-v c = search needs
@@ -109,7 +111,8 @@ returns-2 : tie.Need-returns-2 Inv-loop μ-loop
 returns-2 c =
     let entry = c .before .before .before .before in
     let passed = c .before .loop .inv in
-    finished-all _ (now (entry .args .w)) (now (entry .args .scratch)) _ (entry .pre .2) (passed .3) _ (passed .2) (passed .0) (c .loop-test .left)
+    finished-all _ (now (entry .args .w)) (now (entry .args .scratch)) _ (entry .pre .2) (passed .3) _ (passed .2) (passed .0)
+    (c .loop-test .left)
 
 pub finish-violations-spec : {M : Type 1} → statement M
 finish-violations-spec =

@@ -16,9 +16,12 @@ same-length c = search needs
 
 returns : tie.Need-returns
 returns c =
-    let entry = c .before .before .before .before .before .before .before .before .before .before .before .before .before .before in
-    measured-here (entry .args .shape) (now (entry .args .starts)) (now (entry .args .rows)) (now (entry .args .values)) (entry .args .penalty)
-    (now (entry .args .w)) (now (entry .args .fit)) (now (entry .args .scratch)) (entry .pre .3) _ _ (c .before .before .finish-violations .result)
+    let at-there = c .before .before .before .before .before .before .before .before .before .before .before .before .before .before in
+    let entry = at-there in
+    measured-here (entry .args .shape) (now (entry .args .starts)) (now (entry .args .rows)) (now (entry .args .values))
+    (entry .args .penalty)
+    (now (entry .args .w)) (now (entry .args .fit)) (now (entry .args .scratch)) (entry .pre .3) _ _
+    (c .before .before .finish-violations .result)
     (c .before .before .before .before .before .before .gradients-behind .ensures)
     (c .before .before .finish-violations .ensures)
 

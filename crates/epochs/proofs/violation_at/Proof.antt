@@ -20,11 +20,25 @@ is-finite-requires-2 c κs = search needs
 
 returns-2 : tie.Need-returns-2
 unfolding violationAt _and_
-returns-2 c = rw (← c .before .before .before .before .is-finite .ensures, c .before .before .before .if1 .taken, ← c .before .before .violation .ensures, ← c .before .is-finite2 .ensures, c .if2 .left)
+returns-2 c =
+    rw (
+      ← c .before .before .before .before .is-finite .ensures,
+      c .before .before .before .if1 .taken,
+      ← c .before .before .violation .ensures,
+      ← c .before .is-finite2 .ensures,
+      c .if2 .left,
+    )
 
 returns-3 : tie.Need-returns-3
 unfolding violationAt _and_
-returns-3 c = rw (← c .before .before .before .before .is-finite .ensures, c .before .before .before .if1 .taken, ← c .before .before .violation .ensures, ← c .before .is-finite2 .ensures, c .if2 .taken)
+returns-3 c =
+    rw (
+      ← c .before .before .before .before .is-finite .ensures,
+      c .before .before .before .if1 .taken,
+      ← c .before .before .violation .ensures,
+      ← c .before .is-finite2 .ensures,
+      c .if2 .taken,
+    )
 
 pub violation-at-spec : {M : Type 1} → statement M
 violation-at-spec =

@@ -11,7 +11,8 @@ constant-requires c κs = search needs
 
 returns : tie.Need-returns
 returns c =
-    let a = c .before .before .before .before .before .before .before .before .args in
+    let entry = c .before .before .before .before .before .before .before .before in
+    let a = entry .args in
     let T = task (a .shape) (now (a .starts)) (now (a .rows)) (now (a .values)) (a .penalty) (now (a .prepared)) in
     let point : Point = record { weights = now (a .w); fit = now (a .fit) } in
     visit-skips T (a .feature .0) point _ (c .before .constant .ensures) (c .if1 .taken)
@@ -28,7 +29,8 @@ same-length c = search needs
 returns-2 : tie.Need-returns-2
 unfolding gradientOf
 returns-2 c =
-    let a = c .before .before .before .before .before .before .before .before .before .before .before .before .args in
+    let entry = c .before .before .before .before .before .before .before .before .before .before .before .before in
+    let a = entry .args in
     let T = task (a .shape) (now (a .starts)) (now (a .rows)) (now (a .values)) (a .penalty) (now (a .prepared)) in
     let point : Point = record { weights = now (a .w); fit = now (a .fit) } in
     bad-gradient T (a .feature .0) point _ (c .before .before .before .before .before .constant .ensures)
@@ -53,11 +55,14 @@ same-length-3 c = search needs
 returns-3 : tie.Need-returns-3
 unfolding gradientOf
 returns-3 c =
-    let a = c .before .before .before .before .before .before .before .before .before .before .before .before .before .before .before .before .before .args in
+    let at-if1 = c .before .before .before .before .before .before .before .before .before in
+    let at-constant = at-if1 .before in
+    let entry = at-constant .before .before .before .before .before .before .before in
+    let a = entry .args in
     let T = task (a .shape) (now (a .starts)) (now (a .rows)) (now (a .values)) (a .penalty) (now (a .prepared)) in
     let point : Point = record { weights = now (a .w); fit = now (a .fit) } in
-    bad-weight T (a .feature .0) point _ (c .before .before .before .before .before .before .before .before .before .before .constant .ensures)
-    (c .before .before .before .before .before .before .before .before .before .if1 .left) _
+    bad-weight T (a .feature .0) point _ (at-constant .constant .ensures)
+    (at-if1 .if1 .left) _
     (c .before .before .before .before .before .before .before .gradient-j .ensures) _
     (c .before .before .before .before .before .before .is-finite .ensures) (c .before .before .before .before .before .if2 .taken) _
     (c .before .before .before .weight .ensures) _ (c .before .before .prox .ensures) _ (c .before .is-finite2 .ensures) (c .if3 .left)
@@ -77,20 +82,28 @@ same-length-5 c = search needs
 returns-4 : tie.Need-returns-4
 unfolding gradientOf
 returns-4 c =
-    let here = c .before .before .before .before .before .before .before .before .before .before .before .before .before .before .before in
+    let at-if3 = c .before .before .before .before .before .before .before .before in
+    let at-is-finite2 = at-if3 .before in
+    let at-prox = at-is-finite2 .before in
+    let at-weight = at-prox .before in
+    let at-if2 = at-weight .before .before in
+    let at-is-finite = at-if2 .before in
+    let at-there = at-is-finite .before in
+    let at-if1 = at-there .before .before in
+    let here = at-there in
     let a = here .before .before .before .before .before .before .before .before .before .before .args in
     let T = task (a .shape) (now (a .starts)) (now (a .rows)) (now (a .values)) (a .penalty) (now (a .prepared)) in
     let point : Point = record { weights = now (a .w); fit = now (a .fit) } in
     visit-moves T (a .feature .0) point _
     (here .before .before .before .constant .ensures)
-    (c .before .before .before .before .before .before .before .before .before .before .before .before .before .before .before .before .before .if1 .left) _
-    (c .before .before .before .before .before .before .before .before .before .before .before .before .before .before .before .gradient-j .ensures) _
-    (c .before .before .before .before .before .before .before .before .before .before .before .before .before .before .is-finite .ensures)
-    (c .before .before .before .before .before .before .before .before .before .before .before .before .before .if2 .taken) _
-    (c .before .before .before .before .before .before .before .before .before .before .before .weight .ensures) _
-    (c .before .before .before .before .before .before .before .before .before .before .prox .ensures) _
-    (c .before .before .before .before .before .before .before .before .before .is-finite2 .ensures)
-    (c .before .before .before .before .before .before .before .before .if3 .taken) _ _ _
+    (at-if1 .if1 .left) _
+    (at-there .gradient-j .ensures) _
+    (at-is-finite .is-finite .ensures)
+    (at-if2 .if2 .taken) _
+    (at-weight .weight .ensures) _
+    (at-prox .prox .ensures) _
+    (at-is-finite2 .is-finite2 .ensures)
+    (at-if3 .if3 .taken) _ _ _
     (c .before .before .before .before .before .before .set-weight .ensures)
     (c .before .before .move-fit .ensures)
 

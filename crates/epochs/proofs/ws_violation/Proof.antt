@@ -52,11 +52,13 @@ enum-told c = search needs
 returns : tie.Need-returns Inv-loop μ-loop
 unfolding measuredIn knownIn known worstIn violationOf
 returns c =
-    let a = c .before .before .before .before .before .before .before .before .before .before .before .before .before .before .before .args in
+    let entry = c .before .before .before .before .before .before .before .before .before .before .before .before .before .before .before in
+    let a = entry .args in
     let T = task (a .shape) (now (a .starts)) (now (a .rows)) (now (a .values)) (a .penalty) (now (a .prepared)) in
     passed-bad (c .before .before .before .before .before .before .before .loop .inv .1)
     (of-feature T (now (a .w)) _ _ _ _ _ _ (c .before .before .before .before .before .feature-of .ensures)
-    (c .before .before .before .weight .ensures) (c .before .before .before .before .gradient-j .ensures) (c .before .before .violation-at .ensures))
+    (c .before .before .before .weight .ensures) (c .before .before .before .before .gradient-j .ensures)
+    (c .before .before .violation-at .ensures))
     _ _ (c .enum-told .given .1) (c .before .before .before .before .before .before .loop-test .taken)
 
 enum-known-v : tie.Need-enum-known-v Inv-loop μ-loop

@@ -30,7 +30,9 @@ same-length-4 c = search needs
 
 returns : tie.Need-returns
 returns c =
-    let fitted = c .before .before .before .before .before .before .before .before .before .before .before .before .before .before .before in
+    let at-there = c .before .before .before .before .before .before .before .before .before .before .before .before .before .before .before
+    in
+    let fitted = at-there in
     let shaped = fitted .before .before .before .before .before in
     let set = shaped .before .settings-of .ensures in
     let told = c .tell .ensures in

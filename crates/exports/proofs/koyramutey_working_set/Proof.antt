@@ -18,7 +18,8 @@ same-length c = search needs
 returns : tie.Need-returns
 unfolding wsCall
 returns c =
-    let a = c .before .before .before .before .before .before .before .before .before .before .args in
+    let entry = c .before .before .before .before .before .before .before .before .before .before in
+    let a = entry .args in
     let called = c .before .before .before .before .before .construct-ws-from-kkt .ensures in
     let fault = wsFault (now (a .violations)) (now (a .w)) (a .start) (now (a .indices)) in
     let told = c .tell-size .ensures fault (size (a .start) (now (a .w))) (called .0) in

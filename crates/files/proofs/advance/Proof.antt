@@ -37,7 +37,14 @@ grown-requires-4 c κs = search needs
 
 returns : tie.Need-returns
 unfolding advanced
-returns c = rw (← c .before .before .before .before .u16-at .ensures .0, ← c .before .before .before .grown .ensures, ← c .before .before .grown2 .ensures, ← c .before .grown3 .ensures, ← c .grown4 .ensures)
+returns c =
+    rw (
+      ← c .before .before .before .before .u16-at .ensures .0,
+      ← c .before .before .before .grown .ensures,
+      ← c .before .before .grown2 .ensures,
+      ← c .before .grown3 .ensures,
+      ← c .grown4 .ensures,
+    )
 
 pub advance-spec : {M : Type 1} → statement M
 advance-spec =

@@ -37,18 +37,37 @@ size-of-requires : tie.Need-size-of-requires
 size-of-requires c κs = search needs
 
 rem-if3 : tie.Need-rem-if3
-rem-if3 c = size-positive (byte (now (c .before .before .before .before .before .before .before .before .args .file)) (c .before .before .before .before .before .before .before .before .args .c .at)) _ (c .size-of .ensures)
+rem-if3 c =
+    let entry = c .before .before .before .before .before .before .before .before in
+    size-positive (byte (now (entry .args .file)) (entry .args .c .at)) _ (c .size-of .ensures)
 
 returns-3 : tie.Need-returns-3
 unfolding goodField _and_
-returns-3 c = rw (← c .before .before .before .before .before .is-known .ensures, c .before .before .before .before .if1 .taken, le-leb _ _ (c .before .before .if2 .left), ← c .before .before .before .before .before .before .u16-at .ensures .0, ← c .before .size-of .ensures, ne-eqb _ _ (c .if3 .taken))
+returns-3 c =
+    rw (
+      ← c .before .before .before .before .before .is-known .ensures,
+      c .before .before .before .before .if1 .taken,
+      le-leb _ _ (c .before .before .if2 .left),
+      ← c .before .before .before .before .before .before .u16-at .ensures .0,
+      ← c .before .size-of .ensures,
+      ne-eqb _ _ (c .if3 .taken),
+    )
 
 is-stored-requires : tie.Need-is-stored-requires
 is-stored-requires c κs = search needs
 
 returns-4 : tie.Need-returns-4
 unfolding goodField _and_
-returns-4 c = rw (← c .before .before .before .before .before .before .is-known .ensures, c .before .before .before .before .before .if1 .taken, le-leb _ _ (c .before .before .before .if2 .left), ← c .before .before .before .before .before .before .before .u16-at .ensures .0, ← c .before .before .size-of .ensures, eq-eqb _ _ (c .before .if3 .left)) (c .is-stored .ensures)
+returns-4 c =
+    rw (
+      ← c .before .before .before .before .before .before .is-known .ensures,
+      c .before .before .before .before .before .if1 .taken,
+      le-leb _ _ (c .before .before .before .if2 .left),
+      ← c .before .before .before .before .before .before .before .u16-at .ensures .0,
+      ← c .before .before .size-of .ensures,
+      eq-eqb _ _ (c .before .if3 .left),
+    )
+    (c .is-stored .ensures)
 
 pub is-field-spec : {M : Type 1} → statement M
 is-field-spec =

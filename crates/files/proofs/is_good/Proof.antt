@@ -16,18 +16,31 @@ unfolding goodAt _and_
 returns c = rw (← c .before .is-whole .ensures, c .if1 .left)
 
 is-header-requires : tie.Need-is-header-requires
-is-header-requires c κs = (rw (← c .if2 .taken) (sym (c .before .before .before .is-whole .ensures) ∙ c .before .before .if1 .taken), c .before .before .before .before .before .pre .1)
+is-header-requires c κs = (
+  rw (← c .if2 .taken) (sym (c .before .before .before .is-whole .ensures) ∙ c .before .before .if1 .taken),
+  c .before .before .before .before .before .pre .1,
+)
 
 returns-2 : tie.Need-returns-2
 unfolding goodAt _and_
-returns-2 c = rw (← c .before .before .before .before .is-whole .ensures, c .before .before .before .if1 .taken, eq-eqb _ _ (c .before .if2 .taken)) (c .is-header .ensures)
+returns-2 c =
+    rw (← c .before .before .before .before .is-whole .ensures, c .before .before .before .if1 .taken, eq-eqb _ _ (c .before .if2 .taken))
+    (c .is-header .ensures)
 
 is-field-requires : tie.Need-is-field-requires
-is-field-requires c κs = let h = c .before .before .before .before .before .pre .3 (c .if2 .left) .long in (sym (c .before .before .before .is-whole .ensures) ∙ c .before .before .if1 .taken, omega arith, c .before .before .before .before .before .pre .1, c .before .before .before .before .before .pre .2)
+is-field-requires c κs =
+    let h = c .before .before .before .before .before .pre .3 (c .if2 .left) .long in (
+      sym (c .before .before .before .is-whole .ensures) ∙ c .before .before .if1 .taken,
+      omega arith,
+      c .before .before .before .before .before .pre .1,
+      c .before .before .before .before .before .pre .2,
+    )
 
 returns-3 : tie.Need-returns-3
 unfolding goodAt _and_
-returns-3 c = rw (← c .before .before .before .before .is-whole .ensures, c .before .before .before .if1 .taken, ne-eqb _ _ (c .before .if2 .left)) (c .is-field .ensures)
+returns-3 c =
+    rw (← c .before .before .before .before .is-whole .ensures, c .before .before .before .if1 .taken, ne-eqb _ _ (c .before .if2 .left))
+    (c .is-field .ensures)
 
 pub is-good-spec : {M : Type 1} → statement M
 is-good-spec =

@@ -15,46 +15,129 @@ unfolding goodHeader _and_
 returns c = rw (ne-eqb _ _ (c .if1 .taken))
 
 u16-at-requires : tie.Need-u16-at-requires
-u16-at-requires c κs = (head-inside _ _ (c .before .before .before .pre .0), c .before .before .before .pre .1)
+u16-at-requires c κs =
+    let entry = c .before .before .before in
+    (head-inside _ _ (entry .pre .0), entry .pre .1)
 
 returns-2 : tie.Need-returns-2
 unfolding goodHeader _and_
 returns-2 c = rw (eq-eqb _ _ (c .before .before .if1 .left), ← c .before .u16-at .ensures .0, ne-eqb _ _ (c .if2 .taken))
 
 u32-at-requires : tie.Need-u32-at-requires
-u32-at-requires c κs = let h = (header-long _ _ (c .before .before .before .before .before .pre .0) (c .before .u16-at .ensures .0) (c .if2 .left)) in (omega arith, c .before .before .before .before .before .pre .1)
+u32-at-requires c κs =
+    let h = (header-long _ _ (c .before .before .before .before .before .pre .0) (c .before .u16-at .ensures .0) (c .if2 .left)) in
+    (omega arith, c .before .before .before .before .before .pre .1)
 
 returns-3 : tie.Need-returns-3
 unfolding goodHeader _and_
-returns-3 c = rw (eq-eqb _ _ (c .before .before .before .before .if1 .left), ← c .before .before .before .u16-at .ensures .0, eq-eqb _ _ (c .before .before .if2 .left), ← c .before .u32-at .ensures .0, lt-leb _ _ (c .if3 .taken))
+returns-3 c =
+    rw (
+      eq-eqb _ _ (c .before .before .before .before .if1 .left),
+      ← c .before .before .before .u16-at .ensures .0,
+      eq-eqb _ _ (c .before .before .if2 .left),
+      ← c .before .u32-at .ensures .0,
+      lt-leb _ _ (c .if3 .taken),
+    )
 
 u32-at-requires-2 : tie.Need-u32-at-requires-2
-u32-at-requires-2 c κs = let h = (header-long _ _ (c .before .before .before .before .before .before .before .pre .0) (c .before .before .before .u16-at .ensures .0) (c .before .before .if2 .left)) in (omega arith, c .before .before .before .before .before .before .before .pre .1)
+u32-at-requires-2 c κs =
+    let h =
+    (header-long _ _ (c .before .before .before .before .before .before .before .pre .0) (c .before .before .before .u16-at .ensures .0)
+    (c .before .before .if2 .left))
+    in
+    (omega arith, c .before .before .before .before .before .before .before .pre .1)
 
 returns-4 : tie.Need-returns-4
 unfolding goodHeader _and_
-returns-4 c = rw (eq-eqb _ _ (c .before .before .before .before .before .before .if1 .left), ← c .before .before .before .before .before .u16-at .ensures .0, eq-eqb _ _ (c .before .before .before .before .if2 .left), ← c .before .before .before .u32-at .ensures .0, le-leb _ _ (c .before .before .if3 .left), ← c .before .u32-at2 .ensures .0, lt-leb _ _ (c .if4 .taken))
+returns-4 c =
+    rw (
+      eq-eqb _ _ (c .before .before .before .before .before .before .if1 .left),
+      ← c .before .before .before .before .before .u16-at .ensures .0,
+      eq-eqb _ _ (c .before .before .before .before .if2 .left),
+      ← c .before .before .before .u32-at .ensures .0,
+      le-leb _ _ (c .before .before .if3 .left),
+      ← c .before .u32-at2 .ensures .0,
+      lt-leb _ _ (c .if4 .taken),
+    )
 
 shared-slice-read-if5 : tie.Need-shared-slice-read-if5
-shared-slice-read-if5 c = let h = (header-long _ _ (c .before .before .before .before .before .before .before .before .before .before .pre .0) (c .before .before .before .before .before .before .u16-at .ensures .0) (c .before .before .before .before .before .if2 .left)) in omega arith
+shared-slice-read-if5 c =
+    let h =
+    (header-long _ _ (c .before .before .before .before .before .before .before .before .before .before .pre .0)
+    (c .before .before .before .before .before .before .u16-at .ensures .0) (c .before .before .before .before .before .if2 .left))
+    in
+    omega arith
 
 returns-5 : tie.Need-returns-5
 unfolding goodHeader _and_
-returns-5 c = rw (eq-eqb _ _ (c .before .before .before .before .before .before .before .before .if1 .left), ← c .before .before .before .before .before .before .before .u16-at .ensures .0, eq-eqb _ _ (c .before .before .before .before .before .before .if2 .left), ← c .before .before .before .before .before .u32-at .ensures .0, le-leb _ _ (c .before .before .before .before .if3 .left), ← c .before .before .before .u32-at2 .ensures .0, le-leb _ _ (c .before .before .if4 .left), lt-leb _ _ (c .if5 .taken))
+returns-5 c =
+    let at-if1 = c .before .before .before .before .before .before .before .before in
+    rw (
+      eq-eqb _ _ (at-if1 .if1 .left),
+      ← c .before .before .before .before .before .before .before .u16-at .ensures .0,
+      eq-eqb _ _ (c .before .before .before .before .before .before .if2 .left),
+      ← c .before .before .before .before .before .u32-at .ensures .0,
+      le-leb _ _ (c .before .before .before .before .if3 .left),
+      ← c .before .before .before .u32-at2 .ensures .0,
+      le-leb _ _ (c .before .before .if4 .left),
+      lt-leb _ _ (c .if5 .taken),
+    )
 
 shared-slice-read-if6 : tie.Need-shared-slice-read-if6
-shared-slice-read-if6 c = let h = (header-long _ _ (c .before .before .before .before .before .before .before .before .before .before .before .before .pre .0) (c .before .before .before .before .before .before .before .before .u16-at .ensures .0) (c .before .before .before .before .before .before .before .if2 .left)) in omega arith
+shared-slice-read-if6 c =
+    let h =
+    (header-long _ _ (c .before .before .before .before .before .before .before .before .before .before .before .before .pre .0)
+    (c .before .before .before .before .before .before .before .before .u16-at .ensures .0)
+    (c .before .before .before .before .before .before .before .if2 .left))
+    in
+    omega arith
 
 returns-6 : tie.Need-returns-6
 unfolding goodHeader _and_
-returns-6 c = rw (eq-eqb _ _ (c .before .before .before .before .before .before .before .before .before .before .if1 .left), ← c .before .before .before .before .before .before .before .before .before .u16-at .ensures .0, eq-eqb _ _ (c .before .before .before .before .before .before .before .before .if2 .left), ← c .before .before .before .before .before .before .before .u32-at .ensures .0, le-leb _ _ (c .before .before .before .before .before .before .if3 .left), ← c .before .before .before .before .before .u32-at2 .ensures .0, le-leb _ _ (c .before .before .before .before .if4 .left), le-leb _ _ (c .before .before .if5 .left), lt-leb _ _ (c .if6 .taken))
+returns-6 c =
+    let at-if2 = c .before .before .before .before .before .before .before .before in
+    let at-u16-at = at-if2 .before in
+    let at-if1 = at-u16-at .before in
+    rw (
+      eq-eqb _ _ (at-if1 .if1 .left),
+      ← at-u16-at .u16-at .ensures .0,
+      eq-eqb _ _ (at-if2 .if2 .left),
+      ← c .before .before .before .before .before .before .before .u32-at .ensures .0,
+      le-leb _ _ (c .before .before .before .before .before .before .if3 .left),
+      ← c .before .before .before .before .before .u32-at2 .ensures .0,
+      le-leb _ _ (c .before .before .before .before .if4 .left),
+      le-leb _ _ (c .before .before .if5 .left),
+      lt-leb _ _ (c .if6 .taken),
+    )
 
 shared-slice-read-result : tie.Need-shared-slice-read-result
-shared-slice-read-result c = let h = (header-long _ _ (c .before .before .before .before .before .before .before .before .before .before .before .before .before .before .pre .0) (c .before .before .before .before .before .before .before .before .before .before .u16-at .ensures .0) (c .before .before .before .before .before .before .before .before .before .if2 .left)) in omega arith
+shared-slice-read-result c =
+    let h =
+    (header-long _ _
+    (c .before .before .before .before .before .before .before .before .before .before .before .before .before .before .pre .0)
+    (c .before .before .before .before .before .before .before .before .before .before .u16-at .ensures .0)
+    (c .before .before .before .before .before .before .before .before .before .if2 .left))
+    in
+    omega arith
 
 returns-7 : tie.Need-returns-7
 unfolding goodHeader _and_
-returns-7 c = rw (eq-eqb _ _ (c .before .before .before .before .before .before .before .before .before .before .before .if1 .left), ← c .before .before .before .before .before .before .before .before .before .before .u16-at .ensures .0, eq-eqb _ _ (c .before .before .before .before .before .before .before .before .before .if2 .left), ← c .before .before .before .before .before .before .before .before .u32-at .ensures .0, le-leb _ _ (c .before .before .before .before .before .before .before .if3 .left), ← c .before .before .before .before .before .before .u32-at2 .ensures .0, le-leb _ _ (c .before .before .before .before .before .if4 .left), le-leb _ _ (c .before .before .before .if5 .left), le-leb _ _ (c .before .if6 .left))
+returns-7 c =
+    let at-u32-at = c .before .before .before .before .before .before .before .before in
+    let at-if2 = at-u32-at .before in
+    let at-u16-at = at-if2 .before in
+    let at-if1 = at-u16-at .before in
+    rw (
+      eq-eqb _ _ (at-if1 .if1 .left),
+      ← at-u16-at .u16-at .ensures .0,
+      eq-eqb _ _ (at-if2 .if2 .left),
+      ← at-u32-at .u32-at .ensures .0,
+      le-leb _ _ (c .before .before .before .before .before .before .before .if3 .left),
+      ← c .before .before .before .before .before .before .u32-at2 .ensures .0,
+      le-leb _ _ (c .before .before .before .before .before .if4 .left),
+      le-leb _ _ (c .before .before .before .if5 .left),
+      le-leb _ _ (c .before .if6 .left),
+    )
 
 pub is-header-spec : {M : Type 1} → statement M
 is-header-spec =

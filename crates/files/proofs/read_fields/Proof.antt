@@ -9,7 +9,8 @@ use Rattle.files.proofs.read_fields.Statement.{statement}
 use Rattle.files.proofs.read_fields.Tie as tie
 
 abbrev Inv-loop : tie.InvT-loop
-Inv-loop file keep targets₀ values₀ starts₀ rows₀ c₀ more₀ targets values starts rows c more = Walked file keep targets₀ values₀ starts₀ rows₀ targets values starts rows c more
+Inv-loop file keep targets₀ values₀ starts₀ rows₀ c₀ more₀ targets values starts rows c more =
+    Walked file keep targets₀ values₀ starts₀ rows₀ targets values starts rows c more
 
 abbrev μ-loop : tie.MeasureT-loop
 μ-loop file keep targets₀ values₀ starts₀ rows₀ c₀ more₀ targets values starts rows c more = length file - c .at
@@ -18,37 +19,85 @@ is-good-requires : tie.Need-is-good-requires Inv-loop μ-loop
 is-good-requires c κs = (omega arith, c .before .before .before .before .before .pre .0, omega arith, λ n. absurd (n refl))
 
 loop-holds : tie.Need-loop-holds Inv-loop μ-loop
-loop-holds c = walked-none _ _ _ _ _ _ (c .before .before .before .before .before .before .pre .0) (c .before .before .before .before .before .before .pre .1) _ (c .is-good .ensures)
+loop-holds c =
+    let entry = c .before .before .before .before .before .before in
+    walked-none _ _ _ _ _ _ (entry .pre .0) (entry .pre .1) _ (c .is-good .ensures)
 
 store-requires : tie.Need-store-requires Inv-loop μ-loop
-store-requires c κs = (here-whole _ _ _ _ _ _ (c .before .before .before .before .before .before .before .before .before .before .before .before .pre .0) (c .before .before .before .before .before .before .before .before .before .before .before .before .pre .1) (c .before .before .before .before .before .loop .inv) (c .before .before .before .before .loop-test .taken), c .before .before .before .before .before .before .before .before .before .before .before .before .pre .0, space-now _ _ _ _ _ _ (c .before .before .before .before .before .before .before .before .before .before .before .before .pre .0) (c .before .before .before .before .before .before .before .before .before .before .before .before .pre .1) (c .before .before .before .before .before .loop .inv) (c .before .before .before .before .loop-test .taken))
+store-requires c κs =
+    let at-loop-test = c .before .before .before .before in
+    let at-loop = at-loop-test .before in
+    let entry = at-loop .before .before .before .before .before .before .before in (
+      here-whole _ _ _ _ _ _ (entry .pre .0) (entry .pre .1) (at-loop .loop .inv) (at-loop-test .loop-test .taken),
+      entry .pre .0,
+      space-now _ _ _ _ _ _ (entry .pre .0) (entry .pre .1) (at-loop .loop .inv) (at-loop-test .loop-test .taken),
+    )
 
 advance-requires : tie.Need-advance-requires Inv-loop μ-loop
-advance-requires c κs = let n = counts-few _ _ _ _ _ _ (c .before .before .before .before .before .before .before .before .before .before .before .before .before .before .before .before .before .before .before .before .before .pre .0) (c .before .before .before .before .before .before .before .before .before .before .before .before .before .before .before .before .before .before .before .before .before .pre .1) (c .before .before .before .before .before .before .before .before .before .before .before .before .before .before .loop .inv) in (head-inside _ _ (here-whole _ _ _ _ _ _ (c .before .before .before .before .before .before .before .before .before .before .before .before .before .before .before .before .before .before .before .before .before .pre .0) (c .before .before .before .before .before .before .before .before .before .before .before .before .before .before .before .before .before .before .before .before .before .pre .1) (c .before .before .before .before .before .before .before .before .before .before .before .before .before .before .loop .inv) (c .before .before .before .before .before .before .before .before .before .before .before .before .before .loop-test .taken)), c .before .before .before .before .before .before .before .before .before .before .before .before .before .before .before .before .before .before .before .before .before .pre .0, n .0, n .1, n .2, n .3)
+advance-requires c κs =
+    let at-loop-test = c .before .before .before .before .before .before .before .before .before .before .before .before .before in
+    let at-loop = at-loop-test .before in
+    let entry = at-loop .before .before .before .before .before .before .before in
+    let n = counts-few _ _ _ _ _ _ (entry .pre .0) (entry .pre .1) (at-loop .loop .inv) in (
+      head-inside _ _ (here-whole _ _ _ _ _ _ (entry .pre .0) (entry .pre .1) (at-loop .loop .inv) (at-loop-test .loop-test .taken)),
+      entry .pre .0,
+      n .0,
+      n .1,
+      n .2,
+      n .3,
+    )
 
 is-good-requires-2 : tie.Need-is-good-requires-2 Inv-loop μ-loop
-is-good-requires-2 c κs = let n = next-within _ _ _ _ _ _ (c .before .before .before .before .before .before .before .before .before .before .before .before .before .before .before .before .before .before .before .before .before .before .pre .0) (c .before .before .before .before .before .before .before .before .before .before .before .before .before .before .before .before .before .before .before .before .before .before .pre .1) (c .before .before .before .before .before .before .before .before .before .before .before .before .before .before .before .loop .inv) (c .before .before .before .before .before .before .before .before .before .before .before .before .before .before .loop-test .taken) _ (c .advance .ensures) in (n .0, c .before .before .before .before .before .before .before .before .before .before .before .before .before .before .before .before .before .before .before .before .before .before .pre .0, n .1, n .2)
+is-good-requires-2 c κs =
+    let at-loop-test = c .before .before .before .before .before .before .before .before .before .before .before .before .before .before in
+    let at-loop = at-loop-test .before in
+    let entry = at-loop .before .before .before .before .before .before .before in
+    let n = next-within _ _ _ _ _ _ (entry .pre .0) (entry .pre .1) (at-loop .loop .inv) (at-loop-test .loop-test .taken) _
+    (c .advance .ensures) in
+    (n .0, entry .pre .0, n .1, n .2)
 
 loop-less : tie.Need-loop-less Inv-loop μ-loop
-loop-less c = next-less _ _ _ _ _ _ (c .before .before .before .before .before .before .before .before .before .before .before .before .before .before .before .before .before .before .before .before .before .before .before .pre .0) (c .before .before .before .before .before .before .before .before .before .before .before .before .before .before .before .before .before .before .before .before .before .before .before .pre .1) (c .before .before .before .before .before .before .before .before .before .before .before .before .before .before .before .before .loop .inv) (c .before .before .before .before .before .before .before .before .before .before .before .before .before .before .before .loop-test .taken) _ (c .before .advance .ensures)
+loop-less c =
+    let at-loop-test =
+    c .before .before .before .before .before .before .before .before .before .before .before .before .before .before .before in
+    let at-loop = at-loop-test .before in
+    let entry = at-loop .before .before .before .before .before .before .before in
+    next-less _ _ _ _ _ _ (entry .pre .0) (entry .pre .1) (at-loop .loop .inv) (at-loop-test .loop-test .taken) _ (c .before .advance .ensures)
 
 loop-again : tie.Need-loop-again Inv-loop μ-loop
-loop-again c = walked-more _ _ _ _ _ _ (c .before .before .before .before .before .before .before .before .before .before .before .before .before .before .before .before .before .before .before .before .before .before .before .pre .0) (c .before .before .before .before .before .before .before .before .before .before .before .before .before .before .before .before .before .before .before .before .before .before .before .pre .1) (c .before .before .before .before .before .before .before .before .before .before .before .before .before .before .before .before .loop .inv) (c .before .before .before .before .before .before .before .before .before .before .before .before .before .before .before .loop-test .taken) _ _ _ _ _ _ (c .before .before .before .before .before .before .before .before .before .before .store .ensures .0) (c .before .before .before .before .before .before .before .before .before .before .store .ensures .1) (c .before .before .before .before .before .before .before .before .before .before .store .ensures .2) (c .before .before .before .before .before .before .before .before .before .before .store .ensures .3) (c .before .advance .ensures) (c .is-good2 .ensures)
+loop-again c =
+    let at-store = c .before .before .before .before .before .before .before .before .before .before in
+    let at-loop-test = at-store .before .before .before .before .before in
+    let at-loop = at-loop-test .before in
+    let entry = at-loop .before .before .before .before .before .before .before in
+    walked-more _ _ _ _ _ _ (entry .pre .0) (entry .pre .1) (at-loop .loop .inv) (at-loop-test .loop-test .taken) _ _ _ _ _ _
+    (at-store .store .ensures .0) (at-store .store .ensures .1) (at-store .store .ensures .2) (at-store .store .ensures .3)
+    (c .before .advance .ensures) (c .is-good2 .ensures)
 
 same-length : tie.Need-same-length Inv-loop μ-loop
-same-length c = walked-lengths _ _ _ _ _ _ (c .before .before .before .before .before .before .before .before .pre .0) (c .before .before .before .before .before .before .before .before .pre .1) (c .before .loop .inv) .0
+same-length c =
+    let entry = c .before .before .before .before .before .before .before .before in
+    walked-lengths _ _ _ _ _ _ (entry .pre .0) (entry .pre .1) (c .before .loop .inv) .0
 
 same-length-2 : tie.Need-same-length-2 Inv-loop μ-loop
-same-length-2 c = walked-lengths _ _ _ _ _ _ (c .before .before .before .before .before .before .before .before .pre .0) (c .before .before .before .before .before .before .before .before .pre .1) (c .before .loop .inv) .1
+same-length-2 c =
+    let entry = c .before .before .before .before .before .before .before .before in
+    walked-lengths _ _ _ _ _ _ (entry .pre .0) (entry .pre .1) (c .before .loop .inv) .1
 
 same-length-3 : tie.Need-same-length-3 Inv-loop μ-loop
-same-length-3 c = walked-lengths _ _ _ _ _ _ (c .before .before .before .before .before .before .before .before .pre .0) (c .before .before .before .before .before .before .before .before .pre .1) (c .before .loop .inv) .2
+same-length-3 c =
+    let entry = c .before .before .before .before .before .before .before .before in
+    walked-lengths _ _ _ _ _ _ (entry .pre .0) (entry .pre .1) (c .before .loop .inv) .2
 
 same-length-4 : tie.Need-same-length-4 Inv-loop μ-loop
-same-length-4 c = walked-lengths _ _ _ _ _ _ (c .before .before .before .before .before .before .before .before .pre .0) (c .before .before .before .before .before .before .before .before .pre .1) (c .before .loop .inv) .3
+same-length-4 c =
+    let entry = c .before .before .before .before .before .before .before .before in
+    walked-lengths _ _ _ _ _ _ (entry .pre .0) (entry .pre .1) (c .before .loop .inv) .3
 
 returns : tie.Need-returns Inv-loop μ-loop
-returns c = walked-all _ _ _ _ _ _ (c .before .before .before .before .before .before .before .before .pre .0) (c .before .before .before .before .before .before .before .before .pre .1) (c .before .loop .inv) (c .loop-test .left)
+returns c =
+    let entry = c .before .before .before .before .before .before .before .before in
+    walked-all _ _ _ _ _ _ (entry .pre .0) (entry .pre .1) (c .before .loop .inv) (c .loop-test .left)
 
 pub read-fields-spec : {M : Type 1} → statement M
 read-fields-spec =

@@ -31,7 +31,14 @@ cast-t12 c = omega (arith, c .shared-slice-known3 .given 14)
 
 returns : tie.Need-returns
 unfolding settingsOf
-returns c = rw (← c .before .before .before .before .before .before .penalty-of .ensures, ← c .before .before .before .before .before .f64-at .ensures, ← c .before .before .before .before .u32-at .ensures .0, ← c .before .before .before .u32-at2 .ensures .0, ← c .before .before .u32-at3 .ensures .0)
+returns c =
+    rw (
+      ← c .before .before .before .before .before .before .penalty-of .ensures,
+      ← c .before .before .before .before .before .f64-at .ensures,
+      ← c .before .before .before .before .u32-at .ensures .0,
+      ← c .before .before .before .u32-at2 .ensures .0,
+      ← c .before .before .u32-at3 .ensures .0,
+    )
 
 pub settings-of-spec : {M : Type 1} → statement M
 settings-of-spec =

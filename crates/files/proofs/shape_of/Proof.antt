@@ -16,7 +16,8 @@ u32-at-requires-2 c κs = search needs
 
 returns : tie.Need-returns
 unfolding shapeOf
-returns c = rw (← c .before .u32-at .ensures .0, ← c .u32-at2 .ensures .0, layout-by _ _ (c .before .before .if1 .came) (λ t. t .taken) (λ t. t .left))
+returns c =
+    rw (← c .before .u32-at .ensures .0, ← c .u32-at2 .ensures .0, layout-by _ _ (c .before .before .if1 .came) (λ t. t .taken) (λ t. t .left))
 
 pub shape-of-spec : {M : Type 1} → statement M
 shape-of-spec =

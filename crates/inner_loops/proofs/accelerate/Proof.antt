@@ -10,13 +10,20 @@ use Rattle.inner_loops.proofs.accelerate.Statement.{statement}
 use Rattle.inner_loops.proofs.accelerate.Tie as tie
 
 anderson-accel-requires : tie.Need-anderson-accel-requires
-anderson-accel-requires c κs = step-ready (c .before .before .before .before .before .before .before .before .before .before .before .before .pre .0) (c .before .before .before .before .before .before .before .before .before .before .before .before .pre .1) (c .before .before .before .if1 .taken)
+anderson-accel-requires c κs =
+    let entry = c .before .before .before .before .before .before .before .before .before .before .before .before in
+    step-ready (entry .pre .0) (entry .pre .1) (c .before .before .before .if1 .taken)
 
 add-t22 : tie.Need-add-t22
 add-t22 c = search needs
 
 add-t23 : tie.Need-add-t23
-add-t23 c = let h = taken-few _ _ _ _ _ _ _ _ _ _ (c .before .before .before .before .before .before .before .before .anderson-accel .ensures .0) in let q = c .before .before .before .before .before .before .before .before .before .before .before .before .before .before .before .before .before .before .before .before .before .pre .2 .extrapolations in omega arith
+add-t23 c =
+    let h = taken-few _ _ _ _ _ _ _ _ _ _ (c .before .before .before .before .before .before .before .before .anderson-accel .ensures .0) in
+    let q =
+    c .before .before .before .before .before .before .before .before .before .before .before .before .before .before .before .before .before .before .before .before .before .pre .2 .extrapolations
+    in
+    omega arith
 
 same-length : tie.Need-same-length
 same-length c = search needs
@@ -28,12 +35,21 @@ same-length-3 : tie.Need-same-length-3
 same-length-3 c = search needs
 
 returns : tie.Need-returns
-returns c = let h = taken-few _ _ _ _ _ _ _ _ _ _ (c .before .before .before .before .before .before .before .before .anderson-accel .ensures .0) in (
-  accelerated-on _ _ _ _ _ _ _ _ _ _ _ _ _ _ (c .before .before .before .before .before .before .before .before .before .before .before .before .if1 .taken) (c .before .before .before .before .before .before .before .before .anderson-accel .ensures .0) (c .before .before .before .before .before .before .before .before .anderson-accel .ensures .1),
-  twice-of-thrice (c .before .before .before .before .before .before .before .before .before .before .before .before .before .before .before .before .before .before .before .before .before .args .shape .p) (c .before .before .before .before .before .before .before .before .anderson-accel .last .1 .1 .1 .1 .1 .1 .1 .1 .1 .1 .1 .0) (now (c .before .before .before .before .before .before .before .before .before .before .before .before .before .before .before .before .before .before .before .before .before .args .scratch)) (c .before .before .before .before .before .before .before .before .anderson-accel .ensures .2),
-  le-refl _,
-  omega arith,
-)
+returns c =
+    let h = taken-few _ _ _ _ _ _ _ _ _ _ (c .before .before .before .before .before .before .before .before .anderson-accel .ensures .0) in (
+      accelerated-on _ _ _ _ _ _ _ _ _ _ _ _ _ _
+          (c .before .before .before .before .before .before .before .before .before .before .before .before .if1 .taken)
+          (c .before .before .before .before .before .before .before .before .anderson-accel .ensures .0)
+          (c .before .before .before .before .before .before .before .before .anderson-accel .ensures .1),
+      twice-of-thrice
+          (c .before .before .before .before .before .before .before .before .before .before .before .before .before .before .before .before .before .before .before .before .before .args .shape .p)
+          (c .before .before .before .before .before .before .before .before .anderson-accel .last .1 .1 .1 .1 .1 .1 .1 .1 .1 .1 .1 .0)
+          (now
+          (c .before .before .before .before .before .before .before .before .before .before .before .before .before .before .before .before .before .before .before .before .before .args .scratch))
+          (c .before .before .before .before .before .before .before .before .anderson-accel .ensures .2),
+      le-refl _,
+      omega arith,
+    )
 
 add-t24 : tie.Need-add-t24
 add-t24 c = search needs

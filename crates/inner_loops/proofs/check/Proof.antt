@@ -19,13 +19,27 @@ is-enough-requires : tie.Need-is-enough-requires
 is-enough-requires c κs = search needs
 
 returns : tie.Need-returns
-returns c = (λ kept. checked-stops _ _ _ _ _ _ (sym (ap worstOf (c .before .before .before .before .v .given .1)) ∙ c .before .before .before .before .before .before .ws-violation .ensures) _ _ refl (c .before .is-enough .ensures) (c .if1 .taken), refl)
+returns c = (
+  λ kept.
+      checked-stops _ _ _ _ _ _
+      (sym (ap worstOf (c .before .before .before .before .v .given .1)) ∙
+      c .before .before .before .before .before .before .ws-violation .ensures)
+      _ _ refl (c .before .is-enough .ensures) (c .if1 .taken),
+  refl,
+)
 
 returns-2 : tie.Need-returns-2
 returns-2 c = (λ kept. checked-bad _ _ _ _ _ (sym (ap worstOf (c .enum-told .given .1)) ∙ c .before .before .ws-violation .ensures), refl)
 
 returns-3 : tie.Need-returns-3
-returns-3 c = (λ kept. checked-goes _ _ _ _ _ _ (sym (ap worstOf (c .before .before .before .before .v .given .1)) ∙ c .before .before .before .before .before .before .ws-violation .ensures) _ _ refl (c .before .is-enough .ensures) (c .if1 .left), refl)
+returns-3 c = (
+  λ kept.
+      checked-goes _ _ _ _ _ _
+      (sym (ap worstOf (c .before .before .before .before .v .given .1)) ∙
+      c .before .before .before .before .before .before .ws-violation .ensures)
+      _ _ refl (c .before .is-enough .ensures) (c .if1 .left),
+  refl,
+)
 
 pub check-spec : {M : Type 1} → statement M
 check-spec =

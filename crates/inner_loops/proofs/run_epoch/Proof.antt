@@ -13,13 +13,25 @@ add-twice : tie.Need-add-twice
 add-twice c = search needs
 
 slice-reshare-prefix-prepared : tie.Need-slice-reshare-prefix-prepared
-slice-reshare-prefix-prepared c = room-twice (c .before .before .before .before .before .before .before .before .before .pre .0)
+slice-reshare-prefix-prepared c =
+    let entry = c .before .before .before .before .before .before .before .before .before in
+    room-twice (entry .pre .0)
 
 slice-aggregate-prepared : tie.Need-slice-aggregate-prepared
-slice-aggregate-prepared c = sym (length-take-le _ _ (room-twice (c .before .before .before .before .before .before .before .before .before .before .pre .0)))
+slice-aggregate-prepared c =
+    let entry = c .before .before .before .before .before .before .before .before .before .before in
+    sym (length-take-le _ _ (room-twice (entry .pre .0)))
 
 cd-epoch-requires : tie.Need-cd-epoch-requires
-cd-epoch-requires c κs = (c .before .before .before .before .before .before .before .before .before .before .before .before .pre .1 .below, c .before .before .before .before .before .before .before .before .before .before .before .before .pre .0 .samples, c .before .before .before .before .before .before .before .before .before .before .before .before .pre .0 .weights, length-take-le _ _ (room-twice (c .before .before .before .before .before .before .before .before .before .before .before .before .pre .0)), c .before .before .before .before .before .before .before .before .before .before .before .before .pre .0 .whole, c .before .before .before .before .before .before .before .before .before .before .before .before .pre .0 .fits)
+cd-epoch-requires c κs =
+    let entry = c .before .before .before .before .before .before .before .before .before .before .before .before in (
+      entry .pre .1 .below,
+      entry .pre .0 .samples,
+      entry .pre .0 .weights,
+      length-take-le _ _ (room-twice (entry .pre .0)),
+      entry .pre .0 .whole,
+      entry .pre .0 .fits,
+    )
 
 same-length : tie.Need-same-length
 same-length c = search needs
@@ -31,23 +43,75 @@ same-length-3 : tie.Need-same-length-3
 same-length-3 c = search needs
 
 returns : tie.Need-returns
-returns c = (epoch-bad _ _ _ _ _ _ _ _ _ _ _ _ _ (c .if1 .left) (c .before .before .before .before .before .cd-epoch .ensures), refl, omega arith, omega arith)
+returns c = (
+  epoch-bad _ _ _ _ _ _ _ _ _ _ _ _ _ (c .if1 .left) (c .before .before .before .before .before .cd-epoch .ensures),
+  refl,
+  omega arith,
+  omega arith,
+)
 
 accelerate-requires : tie.Need-accelerate-requires
-accelerate-requires c κs = ((ready-still (c .before .before .before .before .before .before .before .before .before .before .before .before .before .before .before .before .before .before .before .before .before .pre .0) (c .before .before .before .before .before .before .before .before .cd-epoch .last .1 .1 .1 .1 .1 .1 .1 .0) (c .before .before .before .before .before .before .before .before .cd-epoch .last .1 .1 .1 .1 .1 .1 .1 .1 .0) (now (c .before .before .before .before .before .before .before .before .before .before .before .before .before .before .before .before .before .before .before .before .before .args .scratch)) (c .before .before .before .before .before .before .before .before .cd-epoch .kept .1 .1 .1 .1 .1 .1 .1 .0) (c .before .before .before .before .before .before .before .before .cd-epoch .kept .1 .1 .1 .1 .1 .1 .1 .1 .0) refl), c .before .before .before .before .before .before .before .before .before .before .before .before .before .before .before .before .before .before .before .before .before .pre .1, c .before .before .before .before .before .before .before .before .before .before .before .before .before .before .before .before .before .before .before .before .before .pre .2)
+accelerate-requires c κs =
+    let at-cd-epoch = c .before .before .before .before .before .before .before .before in
+    let entry = at-cd-epoch .before .before .before .before .before .before .before .before .before .before .before .before .before in (
+      (ready-still (entry .pre .0) (at-cd-epoch .cd-epoch .last .1 .1 .1 .1 .1 .1 .1 .0)
+          (at-cd-epoch .cd-epoch .last .1 .1 .1 .1 .1 .1 .1 .1 .0) (now (entry .args .scratch))
+          (at-cd-epoch .cd-epoch .kept .1 .1 .1 .1 .1 .1 .1 .0) (at-cd-epoch .cd-epoch .kept .1 .1 .1 .1 .1 .1 .1 .1 .0) refl),
+      entry .pre .1,
+      entry .pre .2,
+    )
 
 is-check-due-requires : tie.Need-is-check-due-requires
 is-check-due-requires c κs = search needs
 
 slice-reshare-prefix-check : tie.Need-slice-reshare-prefix-check
-slice-reshare-prefix-check c = room-twice (ready-still (ready-still (c .before .before .before .before .before .before .before .before .before .before .before .before .before .before .before .before .before .before .before .before .before .before .before .before .before .before .before .before .before .before .pre .0) (c .before .before .before .before .before .before .before .before .before .before .before .before .before .before .before .before .before .cd-epoch .last .1 .1 .1 .1 .1 .1 .1 .0) (c .before .before .before .before .before .before .before .before .before .before .before .before .before .before .before .before .before .cd-epoch .last .1 .1 .1 .1 .1 .1 .1 .1 .0) (now (c .before .before .before .before .before .before .before .before .before .before .before .before .before .before .before .before .before .before .before .before .before .before .before .before .before .before .before .before .before .before .args .scratch)) (c .before .before .before .before .before .before .before .before .before .before .before .before .before .before .before .before .before .cd-epoch .kept .1 .1 .1 .1 .1 .1 .1 .0) (c .before .before .before .before .before .before .before .before .before .before .before .before .before .before .before .before .before .cd-epoch .kept .1 .1 .1 .1 .1 .1 .1 .1 .0) refl) (c .before .before .before .before .before .before .before .before .accelerate .last .1 .1 .1 .1 .1 .1 .1 .1 .0) (c .before .before .before .before .before .before .before .before .accelerate .last .1 .1 .1 .1 .1 .1 .1 .1 .1 .0) (c .before .before .before .before .before .before .before .before .accelerate .last .1 .1 .1 .1 .1 .1 .1 .1 .1 .1 .0) (c .before .before .before .before .before .before .before .before .accelerate .kept .1 .1 .1 .1 .1 .1 .1 .1 .0) (c .before .before .before .before .before .before .before .before .accelerate .kept .1 .1 .1 .1 .1 .1 .1 .1 .1 .0) (c .before .before .before .before .before .before .before .before .accelerate .kept .1 .1 .1 .1 .1 .1 .1 .1 .1 .1 .0))
+slice-reshare-prefix-check c =
+    let at-accelerate = c .before .before .before .before .before .before .before .before in
+    let at-cd-epoch = at-accelerate .before .before .before .before .before .before .before .before .before in
+    let entry = at-cd-epoch .before .before .before .before .before .before .before .before .before .before .before .before .before in
+    room-twice
+    (ready-still
+    (ready-still (entry .pre .0) (at-cd-epoch .cd-epoch .last .1 .1 .1 .1 .1 .1 .1 .0)
+    (at-cd-epoch .cd-epoch .last .1 .1 .1 .1 .1 .1 .1 .1 .0) (now (entry .args .scratch))
+    (at-cd-epoch .cd-epoch .kept .1 .1 .1 .1 .1 .1 .1 .0) (at-cd-epoch .cd-epoch .kept .1 .1 .1 .1 .1 .1 .1 .1 .0) refl)
+    (at-accelerate .accelerate .last .1 .1 .1 .1 .1 .1 .1 .1 .0) (at-accelerate .accelerate .last .1 .1 .1 .1 .1 .1 .1 .1 .1 .0)
+    (at-accelerate .accelerate .last .1 .1 .1 .1 .1 .1 .1 .1 .1 .1 .0) (at-accelerate .accelerate .kept .1 .1 .1 .1 .1 .1 .1 .1 .0)
+    (at-accelerate .accelerate .kept .1 .1 .1 .1 .1 .1 .1 .1 .1 .0) (at-accelerate .accelerate .kept .1 .1 .1 .1 .1 .1 .1 .1 .1 .1 .0))
 
 slice-aggregate-check : tie.Need-slice-aggregate-check
-slice-aggregate-check c = sym (length-take-le _ _ (room-twice (ready-still (ready-still (c .before .before .before .before .before .before .before .before .before .before .before .before .before .before .before .before .before .before .before .before .before .before .before .before .before .before .before .before .before .before .before .pre .0) (c .before .before .before .before .before .before .before .before .before .before .before .before .before .before .before .before .before .before .cd-epoch .last .1 .1 .1 .1 .1 .1 .1 .0) (c .before .before .before .before .before .before .before .before .before .before .before .before .before .before .before .before .before .before .cd-epoch .last .1 .1 .1 .1 .1 .1 .1 .1 .0) (now (c .before .before .before .before .before .before .before .before .before .before .before .before .before .before .before .before .before .before .before .before .before .before .before .before .before .before .before .before .before .before .before .args .scratch)) (c .before .before .before .before .before .before .before .before .before .before .before .before .before .before .before .before .before .before .cd-epoch .kept .1 .1 .1 .1 .1 .1 .1 .0) (c .before .before .before .before .before .before .before .before .before .before .before .before .before .before .before .before .before .before .cd-epoch .kept .1 .1 .1 .1 .1 .1 .1 .1 .0) refl) (c .before .before .before .before .before .before .before .before .before .accelerate .last .1 .1 .1 .1 .1 .1 .1 .1 .0) (c .before .before .before .before .before .before .before .before .before .accelerate .last .1 .1 .1 .1 .1 .1 .1 .1 .1 .0) (c .before .before .before .before .before .before .before .before .before .accelerate .last .1 .1 .1 .1 .1 .1 .1 .1 .1 .1 .0) (c .before .before .before .before .before .before .before .before .before .accelerate .kept .1 .1 .1 .1 .1 .1 .1 .1 .0) (c .before .before .before .before .before .before .before .before .before .accelerate .kept .1 .1 .1 .1 .1 .1 .1 .1 .1 .0) (c .before .before .before .before .before .before .before .before .before .accelerate .kept .1 .1 .1 .1 .1 .1 .1 .1 .1 .1 .0))))
+slice-aggregate-check c =
+    let at-accelerate = c .before .before .before .before .before .before .before .before .before in
+    let at-cd-epoch = at-accelerate .before .before .before .before .before .before .before .before .before in
+    let entry = at-cd-epoch .before .before .before .before .before .before .before .before .before .before .before .before .before in
+    sym
+    (length-take-le _ _
+    (room-twice
+    (ready-still
+    (ready-still (entry .pre .0) (at-cd-epoch .cd-epoch .last .1 .1 .1 .1 .1 .1 .1 .0)
+    (at-cd-epoch .cd-epoch .last .1 .1 .1 .1 .1 .1 .1 .1 .0) (now (entry .args .scratch))
+    (at-cd-epoch .cd-epoch .kept .1 .1 .1 .1 .1 .1 .1 .0) (at-cd-epoch .cd-epoch .kept .1 .1 .1 .1 .1 .1 .1 .1 .0) refl)
+    (at-accelerate .accelerate .last .1 .1 .1 .1 .1 .1 .1 .1 .0)
+    (at-accelerate .accelerate .last .1 .1 .1 .1 .1 .1 .1 .1 .1 .0)
+    (at-accelerate .accelerate .last .1 .1 .1 .1 .1 .1 .1 .1 .1 .1 .0)
+    (at-accelerate .accelerate .kept .1 .1 .1 .1 .1 .1 .1 .1 .0)
+    (at-accelerate .accelerate .kept .1 .1 .1 .1 .1 .1 .1 .1 .1 .0)
+    (at-accelerate .accelerate .kept .1 .1 .1 .1 .1 .1 .1 .1 .1 .1 .0))))
 
 check-requires : tie.Need-check-requires
-check-requires c κs = let R = (ready-still (ready-still (c .before .before .before .before .before .before .before .before .before .before .before .before .before .before .before .before .before .before .before .before .before .before .before .before .before .before .before .before .before .before .before .before .before .pre .0) (c .before .before .before .before .before .before .before .before .before .before .before .before .before .before .before .before .before .before .before .before .cd-epoch .last .1 .1 .1 .1 .1 .1 .1 .0) (c .before .before .before .before .before .before .before .before .before .before .before .before .before .before .before .before .before .before .before .before .cd-epoch .last .1 .1 .1 .1 .1 .1 .1 .1 .0) (now (c .before .before .before .before .before .before .before .before .before .before .before .before .before .before .before .before .before .before .before .before .before .before .before .before .before .before .before .before .before .before .before .before .before .args .scratch)) (c .before .before .before .before .before .before .before .before .before .before .before .before .before .before .before .before .before .before .before .before .cd-epoch .kept .1 .1 .1 .1 .1 .1 .1 .0) (c .before .before .before .before .before .before .before .before .before .before .before .before .before .before .before .before .before .before .before .before .cd-epoch .kept .1 .1 .1 .1 .1 .1 .1 .1 .0) refl) (c .before .before .before .before .before .before .before .before .before .before .before .accelerate .last .1 .1 .1 .1 .1 .1 .1 .1 .0) (c .before .before .before .before .before .before .before .before .before .before .before .accelerate .last .1 .1 .1 .1 .1 .1 .1 .1 .1 .0) (c .before .before .before .before .before .before .before .before .before .before .before .accelerate .last .1 .1 .1 .1 .1 .1 .1 .1 .1 .1 .0) (c .before .before .before .before .before .before .before .before .before .before .before .accelerate .kept .1 .1 .1 .1 .1 .1 .1 .1 .0) (c .before .before .before .before .before .before .before .before .before .before .before .accelerate .kept .1 .1 .1 .1 .1 .1 .1 .1 .1 .0) (c .before .before .before .before .before .before .before .before .before .before .before .accelerate .kept .1 .1 .1 .1 .1 .1 .1 .1 .1 .1 .0)) in
-    (c .before .before .before .before .before .before .before .before .before .before .before .before .before .before .before .before .before .before .before .before .before .before .before .before .before .before .before .before .before .before .before .before .before .pre .1 .below, c .before .before .before .before .before .before .before .before .before .before .before .before .before .before .before .before .before .before .before .before .before .before .before .before .before .before .before .before .before .before .before .before .before .pre .0 .samples, R .weights, length-take-le _ _ (room-twice R), c .before .before .before .before .before .before .before .before .before .before .before .before .before .before .before .before .before .before .before .before .before .before .before .before .before .before .before .before .before .before .before .before .before .pre .0 .whole, R .fits)
+check-requires c κs =
+    let at-accelerate = c .before .before .before .before .before .before .before .before .before .before .before in
+    let at-cd-epoch = at-accelerate .before .before .before .before .before .before .before .before .before in
+    let entry = at-cd-epoch .before .before .before .before .before .before .before .before .before .before .before .before .before in
+    let R =
+    (ready-still
+    (ready-still (entry .pre .0) (at-cd-epoch .cd-epoch .last .1 .1 .1 .1 .1 .1 .1 .0)
+    (at-cd-epoch .cd-epoch .last .1 .1 .1 .1 .1 .1 .1 .1 .0) (now (entry .args .scratch))
+    (at-cd-epoch .cd-epoch .kept .1 .1 .1 .1 .1 .1 .1 .0) (at-cd-epoch .cd-epoch .kept .1 .1 .1 .1 .1 .1 .1 .1 .0) refl)
+    (at-accelerate .accelerate .last .1 .1 .1 .1 .1 .1 .1 .1 .0) (at-accelerate .accelerate .last .1 .1 .1 .1 .1 .1 .1 .1 .1 .0)
+    (at-accelerate .accelerate .last .1 .1 .1 .1 .1 .1 .1 .1 .1 .1 .0) (at-accelerate .accelerate .kept .1 .1 .1 .1 .1 .1 .1 .1 .0)
+    (at-accelerate .accelerate .kept .1 .1 .1 .1 .1 .1 .1 .1 .1 .0) (at-accelerate .accelerate .kept .1 .1 .1 .1 .1 .1 .1 .1 .1 .1 .0))
+    in
+    (entry .pre .1 .below, entry .pre .0 .samples, R .weights, length-take-le _ _ (room-twice R), entry .pre .0 .whole, R .fits)
 
 same-length-4 : tie.Need-same-length-4
 same-length-4 c = search needs
@@ -59,13 +123,21 @@ same-length-6 : tie.Need-same-length-6
 same-length-6 c = search needs
 
 returns-2 : tie.Need-returns-2
-returns-2 c = let counts = counts-checked (c .check .result) (c .before .before .before .before .before .before .before .before .before .before .before .before .before .before .before .before .before .before .before .before .before .before .before .before .before .before .before .before .before .before .before .before .before .before .args .counts) (c .before .before .before .before .before .before .before .before .before .before .before .before .accelerate .result) (c .check .ensures .1) (c .before .before .before .before .before .before .before .before .before .before .before .before .accelerate .ensures .2) (c .before .before .before .before .before .before .before .before .before .before .before .before .accelerate .ensures .3) in (
-  epoch-checked _ _ _ _ _ _ _ _ _ _ _ _ _ (c .before .before .before .before .before .before .before .before .before .before .before .before .before .before .before .before .if1 .taken) (c .before .before .before .before .before .before .before .before .before .before .before .before .before .before .before .before .before .before .before .before .before .cd-epoch .ensures) _ _ _ _ (c .before .before .before .before .before .before .before .before .before .before .before .before .accelerate .ensures .0) _ (c .before .before .before .before .before .is-check-due .ensures) (c .before .before .before .before .if2 .taken) _
-      (rw (← c .before .before .before .before .before .before .before .before .before .before .before .before .accelerate .ensures .1) (c .check .ensures .0 _)),
-  c .before .before .before .before .before .before .before .before .before .before .before .before .accelerate .ensures .1,
-  counts .0,
-  counts .1,
-)
+returns-2 c =
+    let at-accelerate = c .before .before .before .before .before .before .before .before .before .before .before .before in
+    let at-if1 = at-accelerate .before .before .before .before in
+    let at-cd-epoch = at-if1 .before .before .before .before .before in
+    let entry = at-cd-epoch .before .before .before .before .before .before .before .before .before .before .before .before .before in
+    let counts = counts-checked (c .check .result) (entry .args .counts) (at-accelerate .accelerate .result) (c .check .ensures .1)
+    (at-accelerate .accelerate .ensures .2) (at-accelerate .accelerate .ensures .3) in (
+      epoch-checked _ _ _ _ _ _ _ _ _ _ _ _ _ (at-if1 .if1 .taken) (at-cd-epoch .cd-epoch .ensures) _ _ _ _
+          (at-accelerate .accelerate .ensures .0) _ (c .before .before .before .before .before .is-check-due .ensures)
+          (c .before .before .before .before .if2 .taken) _
+          (rw (← at-accelerate .accelerate .ensures .1) (c .check .ensures .0 _)),
+      at-accelerate .accelerate .ensures .1,
+      counts .0,
+      counts .1,
+    )
 
 same-length-7 : tie.Need-same-length-7
 same-length-7 c = search needs
@@ -77,12 +149,16 @@ same-length-9 : tie.Need-same-length-9
 same-length-9 c = search needs
 
 returns-3 : tie.Need-returns-3
-returns-3 c = (
-  epoch-unchecked _ _ _ _ _ _ _ _ _ _ _ _ _ (c .before .before .before .before .before .before .before .before .before .before .before .before .if1 .taken) (c .before .before .before .before .before .before .before .before .before .before .before .before .before .before .before .before .before .cd-epoch .ensures) _ _ _ _ (c .before .before .before .before .before .before .before .before .accelerate .ensures .0) _ (c .before .is-check-due .ensures) (c .if2 .left),
-  c .before .before .before .before .before .before .before .before .accelerate .ensures .1,
-  c .before .before .before .before .before .before .before .before .accelerate .ensures .2,
-  c .before .before .before .before .before .before .before .before .accelerate .ensures .3,
-)
+returns-3 c =
+    let at-accelerate = c .before .before .before .before .before .before .before .before in
+    let at-if1 = at-accelerate .before .before .before .before in
+    let at-cd-epoch = at-if1 .before .before .before .before .before in (
+      epoch-unchecked _ _ _ _ _ _ _ _ _ _ _ _ _ (at-if1 .if1 .taken) (at-cd-epoch .cd-epoch .ensures) _ _ _ _
+          (at-accelerate .accelerate .ensures .0) _ (c .before .is-check-due .ensures) (c .if2 .left),
+      at-accelerate .accelerate .ensures .1,
+      at-accelerate .accelerate .ensures .2,
+      at-accelerate .accelerate .ensures .3,
+    )
 
 pub run-epoch-spec : {M : Type 1} → statement M
 run-epoch-spec =

@@ -12,13 +12,18 @@ refused-requires : tie.Need-refused-requires
 refused-requires c κs = search needs
 
 returns : tie.Need-returns
-returns c = let e = refused-1 _ _ _ _ _ (c .before .before .sizes-fit .ensures) _ (c .before .if1 .left) (c .refused .ensures) in (e .0, e .1, rw (c .refused .ensures) tt)
+returns c =
+    let e = refused-1 _ _ _ _ _ (c .before .before .sizes-fit .ensures) _ (c .before .if1 .left) (c .refused .ensures) in
+    (e .0, e .1, rw (c .refused .ensures) tt)
 
 refused-requires-2 : tie.Need-refused-requires-2
 refused-requires-2 c κs = search needs
 
 returns-2 : tie.Need-returns-2
-returns-2 c = let e = refused-3 _ _ _ _ _ (c .before .before .before .sizes-fit .ensures) (c .before .before .if1 .taken) _ (c .before .if2 .left) (c .refused2 .ensures) in (e .0, e .1, rw (c .refused2 .ensures) tt)
+returns-2 c =
+    let e = refused-3 _ _ _ _ _ (c .before .before .before .sizes-fit .ensures) (c .before .before .if1 .taken) _ (c .before .if2 .left)
+    (c .refused2 .ensures) in
+    (e .0, e .1, rw (c .refused2 .ensures) tt)
 
 enum-known-fit : tie.Need-enum-known-fit
 enum-known-fit c = search needs
@@ -30,19 +35,32 @@ enum-known-fit-2 : tie.Need-enum-known-fit-2
 enum-known-fit-2 c = search needs
 
 put-listing-requires : tie.Need-put-listing-requires
-put-listing-requires c κs = let e = sizes _ _ _ (c .before .before .before .before .before .before .sizes-fit .ensures) (c .before .before .before .before .before .if1 .taken) in listing-room _ _ _ _ (e .0) (e .1) (c .before .before .before .before .if2 .taken)
+put-listing-requires c κs =
+    let e = sizes _ _ _ (c .before .before .before .before .before .before .sizes-fit .ensures)
+    (c .before .before .before .before .before .if1 .taken) in
+    listing-room _ _ _ _ (e .0) (e .1) (c .before .before .before .before .if2 .taken)
 
 same-length : tie.Need-same-length
 same-length c = search needs
 
 returns-3 : tie.Need-returns-3
-returns-3 c = let e = written _ _ _ _ _ (c .before .before .before .before .before .before .before .before .before .sizes-fit .ensures) (c .before .before .before .before .before .before .before .before .if1 .taken) _ _ (c .before .before .before .before .before .before .before .if2 .taken) (c .before .before .put-refusal .ensures) in rw (c .before .before .before .before .before .fit .given .1) (e .0, e .1, within _ _ _ _ (c .before .before .put-refusal .ensures))
+returns-3 c =
+    let at-if1 = c .before .before .before .before .before .before .before .before in
+    let at-sizes-fit = at-if1 .before in
+    let e = written _ _ _ _ _ (at-sizes-fit .sizes-fit .ensures) (at-if1 .if1 .taken) _ _
+    (c .before .before .before .before .before .before .before .if2 .taken) (c .before .before .put-refusal .ensures) in
+    rw (c .before .before .before .before .before .fit .given .1) (e .0, e .1, within _ _ _ _ (c .before .before .put-refusal .ensures))
 
 same-length-2 : tie.Need-same-length-2
 same-length-2 c = search needs
 
 returns-4 : tie.Need-returns-4
-returns-4 c = let e = written _ _ _ _ _ (c .before .before .before .before .before .before .before .before .before .sizes-fit .ensures) (c .before .before .before .before .before .before .before .before .if1 .taken) _ _ (c .before .before .before .before .before .before .before .if2 .taken) (c .before .before .put-listing .ensures) in rw (c .before .before .before .before .before .fit2 .given .1) (e .0, e .1, within _ _ _ _ (c .before .before .put-listing .ensures))
+returns-4 c =
+    let at-if1 = c .before .before .before .before .before .before .before .before in
+    let at-sizes-fit = at-if1 .before in
+    let e = written _ _ _ _ _ (at-sizes-fit .sizes-fit .ensures) (at-if1 .if1 .taken) _ _
+    (c .before .before .before .before .before .before .before .if2 .taken) (c .before .before .put-listing .ensures) in
+    rw (c .before .before .before .before .before .fit2 .given .1) (e .0, e .1, within _ _ _ _ (c .before .before .put-listing .ensures))
 
 pub write-listing-spec : {M : Type 1} → statement M
 write-listing-spec =

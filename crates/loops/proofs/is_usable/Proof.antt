@@ -38,7 +38,9 @@ is-usable-at-requires : tie.Need-is-usable-at-requires Inv-loop μ-loop
 is-usable-at-requires c κs = search needs
 
 returns : tie.Need-returns Inv-loop μ-loop
-returns c = all-broken _ _ _ (c .before .before .before .before .before .loop .inv .1) (sym (c .before .is-usable-at .ensures) ∙ c .if1 .left) (c .before .before .before .before .loop-test .taken)
+returns c =
+    all-broken _ _ _ (c .before .before .before .before .before .loop .inv .1) (sym (c .before .is-usable-at .ensures) ∙ c .if1 .left)
+    (c .before .before .before .before .loop-test .taken)
 
 add-j : tie.Need-add-j Inv-loop μ-loop
 add-j c = search needs
@@ -47,7 +49,10 @@ loop-less : tie.Need-loop-less Inv-loop μ-loop
 loop-less c = search needs
 
 loop-again : tie.Need-loop-again Inv-loop μ-loop
-loop-again c = (search needs, all-more _ _ (c .before .before .before .before .before .loop .inv .1) (sym (c .before .is-usable-at .ensures) ∙ c .if1 .taken))
+loop-again c = (
+  search needs,
+  all-more _ _ (c .before .before .before .before .before .loop .inv .1) (sym (c .before .is-usable-at .ensures) ∙ c .if1 .taken),
+)
 
 returns-2 : tie.Need-returns-2 Inv-loop μ-loop
 returns-2 c = steps-all _ _ _ _ _ (c .before .loop .inv .1) (c .before .loop .inv .0) (c .loop-test .left)

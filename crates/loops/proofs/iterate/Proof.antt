@@ -33,7 +33,9 @@ part-construct-ws-start : tie.Need-part-construct-ws-start
 part-construct-ws-start c = search needs
 
 part-construct-ws-end : tie.Need-part-construct-ws-end
-part-construct-ws-end c = room-for (c .before .before .before .before .before .before .before .before .before .before .before .before .pre .0)
+part-construct-ws-end c =
+    let entry = c .before .before .before .before .before .before .before .before .before .before .before .before in
+    room-for (entry .pre .0)
 
 construct-ws-requires : tie.Need-construct-ws-requires
 construct-ws-requires c κs =
@@ -50,27 +52,66 @@ construct-ws-requires c κs =
     )
 
 slice-reshare-prefix-ws : tie.Need-slice-reshare-prefix-ws
-slice-reshare-prefix-ws c = (le-trans (set-most _ _ _ (start-most _ _ _ _ (c .before .before .before .before .before .before .before .start-size .ensures) (c .before .before .before .before .before .before .before .before .before .before .before .before .before .before .before .before .before .before .pre .0 .weights)) _ _ (c .before .before .construct-ws .ensures .0) (c .before .before .construct-ws .ensures .1)) (le-of-eq (c .before .before .before .before .before .before .before .before .before .before .before .before .before .before .before .before .before .before .pre .0 .weights ∙ sym (c .before .before .construct-ws .kept .1 .1 .1 .0 ∙ c .before .before .before .before .before .before .before .before .before .before .before .before .before .before .before .before .before .before .pre .1))))
+slice-reshare-prefix-ws c =
+    let entry =
+    c .before .before .before .before .before .before .before .before .before .before .before .before .before .before .before .before .before .before
+    in
+    (le-trans
+    (set-most _ _ _
+    (start-most _ _ _ _ (c .before .before .before .before .before .before .before .start-size .ensures) (entry .pre .0 .weights)) _
+    _ (c .before .before .construct-ws .ensures .0) (c .before .before .construct-ws .ensures .1))
+    (le-of-eq (entry .pre .0 .weights ∙ sym (c .before .before .construct-ws .kept .1 .1 .1 .0 ∙ entry .pre .1))))
 
 slice-aggregate-ws : tie.Need-slice-aggregate-ws
-slice-aggregate-ws c = sym (length-take-le _ _ (le-trans (set-most _ _ _ (start-most _ _ _ _ (c .before .before .before .before .before .before .before .before .start-size .ensures) (c .before .before .before .before .before .before .before .before .before .before .before .before .before .before .before .before .before .before .before .pre .0 .weights)) _ _ (c .before .before .before .construct-ws .ensures .0) (c .before .before .before .construct-ws .ensures .1)) (le-of-eq (c .before .before .before .before .before .before .before .before .before .before .before .before .before .before .before .before .before .before .before .pre .0 .weights ∙ sym (c .before .before .before .construct-ws .kept .1 .1 .1 .0 ∙ c .before .before .before .before .before .before .before .before .before .before .before .before .before .before .before .before .before .before .before .pre .1)))))
+slice-aggregate-ws c =
+    let at-construct-ws = c .before .before .before in
+    let at-start-size = at-construct-ws .before .before .before .before .before in
+    let entry = at-start-size .before .before .before .before .before .before .before .before .before .before .before in
+    sym
+    (length-take-le _ _
+    (le-trans
+    (set-most _ _ _ (start-most _ _ _ _ (at-start-size .start-size .ensures) (entry .pre .0 .weights)) _ _
+    (at-construct-ws .construct-ws .ensures .0) (at-construct-ws .construct-ws .ensures .1))
+    (le-of-eq (entry .pre .0 .weights ∙ sym (at-construct-ws .construct-ws .kept .1 .1 .1 .0 ∙ entry .pre .1)))))
 
 run-epochs-requires : tie.Need-run-epochs-requires
-run-epochs-requires c κs = let a = c .before .before .before .before .before .before .before .before .before .before .before .before .before .before .before .before .before .before .before .before .before .before .before .pre .2 .counts .epochs in
-    let b = c .before .before .before .before .before .before .before .before .before .before .before .before .before .before .before .before .before .before .before .before .before .before .before .pre .2 .counts .extrapolations in
-    (c .before .before .before .before .before .before .before .before .before .before .before .before .before .before .before .before .before .before .before .before .before .before .before .pre .0, set-features _ _ _ (start-most _ _ _ _ (c .before .before .before .before .before .before .before .before .before .before .before .before .start-size .ensures) (c .before .before .before .before .before .before .before .before .before .before .before .before .before .before .before .before .before .before .before .before .before .before .before .pre .0 .weights)) _ _ (c .before .before .before .before .before .before .before .construct-ws .ensures .0) (c .before .before .before .before .before .before .before .construct-ws .ensures .1) _ (c .before .before .before .before .before .before .before .before .before .before .before .before .before .before .before .before .before .before .before .before .before .before .before .pre .0 .weights), record { epochs = omega arith; extrapolations = omega arith })
+run-epochs-requires c κs =
+    let a =
+    c .before .before .before .before .before .before .before .before .before .before .before .before .before .before .before .before .before .before .before .before .before .before .before .pre .2 .counts .epochs
+    in
+    let b =
+    c .before .before .before .before .before .before .before .before .before .before .before .before .before .before .before .before .before .before .before .before .before .before .before .pre .2 .counts .extrapolations
+    in (
+      c .before .before .before .before .before .before .before .before .before .before .before .before .before .before .before .before .before .before .before .before .before .before .before .pre .0,
+      set-features _ _ _
+          (start-most _ _ _ _
+          (c .before .before .before .before .before .before .before .before .before .before .before .before .start-size .ensures)
+          (c .before .before .before .before .before .before .before .before .before .before .before .before .before .before .before .before .before .before .before .before .before .before .before .pre .0 .weights))
+          _ _ (c .before .before .before .before .before .before .before .construct-ws .ensures .0)
+          (c .before .before .before .before .before .before .before .construct-ws .ensures .1) _
+          (c .before .before .before .before .before .before .before .before .before .before .before .before .before .before .before .before .before .before .before .before .before .before .before .pre .0 .weights),
+      record { epochs = omega arith; extrapolations = omega arith },
+    )
 
 enum-known-c : tie.Need-enum-known-c
 enum-known-c c = search needs
 
 one-more-requires : tie.Need-one-more-requires
-one-more-requires c κs = let h = c .before .before .before .before .before .before .before .before .before .before .before .before .before .before .before .before .before .before .before .before .before .before .before .before .before .before .before .before .before .before .before .before .before .pre .2 .iterations in omega arith
+one-more-requires c κs =
+    let h =
+    c .before .before .before .before .before .before .before .before .before .before .before .before .before .before .before .before .before .before .before .before .before .before .before .before .before .before .before .before .before .before .before .before .before .pre .2 .iterations
+    in
+    omega arith
 
 enum-known-c-2 : tie.Need-enum-known-c-2
 enum-known-c-2 c = search needs
 
 one-more-requires-2 : tie.Need-one-more-requires-2
-one-more-requires-2 c κs = let h = c .before .before .before .before .before .before .before .before .before .before .before .before .before .before .before .before .before .before .before .before .before .before .before .before .before .before .before .before .before .before .before .before .before .pre .2 .iterations in omega arith
+one-more-requires-2 c κs =
+    let h =
+    c .before .before .before .before .before .before .before .before .before .before .before .before .before .before .before .before .before .before .before .before .before .before .before .before .before .before .before .before .before .before .before .before .before .pre .2 .iterations
+    in
+    omega arith
 
 enum-told : tie.Need-enum-told
 enum-told c = search needs
@@ -88,11 +129,16 @@ same-length-4 : tie.Need-same-length-4
 same-length-4 c = search needs
 
 returns : tie.Need-returns
-returns c = (
-  (λ sets. rw (c .one-more .ensures) (shown-going _ _ _ _ _ _ _ _ _ (set-chosen _ _ _ _ _ _ _ (c .before .before .before .before .before .before .before .before .before .before .before .before .before .before .before .before .before .before .before .before .before .before .before .start-size .ensures) (part-violations (c .before .before .before .before .before .before .before .before .before .before .before .before .before .before .before .before .before .before .before .before .before .before .before .before .before .before .before .before .before .before .before .before .before .before .args .shape) (now (c .before .before .before .before .before .before .before .before .before .before .before .before .before .before .before .before .before .before .before .before .before .before .before .before .before .before .before .before .before .before .before .before .before .before .args .scratch)) ∙ c .before .before .before .before .before .before .before .before .before .before .before .before .before .before .before .before .before .before .before .before .before .before .before .before .before .before .before .before .before .before .before .before .before .before .pre .3) (set-built _ _ _ (start-most _ _ _ _ (c .before .before .before .before .before .before .before .before .before .before .before .before .before .before .before .before .before .before .before .before .before .before .before .start-size .ensures) (c .before .before .before .before .before .before .before .before .before .before .before .before .before .before .before .before .before .before .before .before .before .before .before .before .before .before .before .before .before .before .before .before .before .before .pre .0 .weights)) _ _ (c .before .before .before .before .before .before .before .before .before .before .before .before .before .before .before .before .before .before .construct-ws .ensures .0) (c .before .before .before .before .before .before .before .before .before .before .before .before .before .before .before .before .before .before .construct-ws .ensures .1))) _ _ _ _ (c .before .before .before .before .before .before .before .before .before .before .run-epochs .ensures .0) sets _ (c .before .before .c .given .1))),
-  c .before .before .before .before .before .before .before .before .before .before .run-epochs .ensures .1,
-  rw (c .one-more .ensures) (grown-by (c .before .before .before .before .before .before .before .before .before .before .before .before .before .before .before .before .before .before .before .before .before .before .before .before .before .before .before .before .before .before .before .before .before .before .args .totals) (c .before .before .before .before .before .before .before .before .before .before .before .before .before .before .before .before .before .before .before .before .before .before .before .before .before .before .before .before .before .before .before .before .before .before .args .v) (c .before .before .before .before .before .before .before .before .before .before .run-epochs .result) _ (ap (λ (r : InnerStep). countsOf r (c .before .before .before .before .before .before .before .before .before .before .before .before .before .before .before .before .before .before .before .before .before .before .before .before .before .before .before .before .before .before .before .before .before .before .args .totals .counts)) (c .before .before .c .given .1)) (c .before .before .before .before .before .before .before .before .before .before .run-epochs .ensures .2) (c .before .before .before .before .before .before .before .before .before .before .run-epochs .ensures .3)),
-)
+returns c =
+    let at-run-epochs = c .before .before .before .before .before .before .before .before .before .before in
+    let at-construct-ws = at-run-epochs .before .before .before .before .before .before .before .before in
+    let at-start-size = at-construct-ws .before .before .before .before .before in
+    let entry = at-start-size .before .before .before .before .before .before .before .before .before .before .before in (
+      (λ sets. rw (c .one-more .ensures) (shown-going _ _ _ _ _ _ _ _ _ (set-chosen _ _ _ _ _ _ _ (at-start-size .start-size .ensures) (part-violations (entry .args .shape) (now (entry .args .scratch)) ∙ entry .pre .3) (set-built _ _ _ (start-most _ _ _ _ (at-start-size .start-size .ensures) (entry .pre .0 .weights)) _ _ (at-construct-ws .construct-ws .ensures .0) (at-construct-ws .construct-ws .ensures .1))) _ _ _ _ (at-run-epochs .run-epochs .ensures .0) sets _ (c .before .before .c .given .1))),
+      at-run-epochs .run-epochs .ensures .1,
+      rw (c .one-more .ensures)
+          (grown-by (entry .args .totals) (entry .args .v) (at-run-epochs .run-epochs .result) _ (ap (λ (r : InnerStep). countsOf r (entry .args .totals .counts)) (c .before .before .c .given .1)) (at-run-epochs .run-epochs .ensures .2) (at-run-epochs .run-epochs .ensures .3)),
+    )
 
 same-length-5 : tie.Need-same-length-5
 same-length-5 c = search needs
@@ -107,11 +153,16 @@ same-length-8 : tie.Need-same-length-8
 same-length-8 c = search needs
 
 returns-2 : tie.Need-returns-2
-returns-2 c = (
-  (λ sets. rw (c .one-more2 .ensures) (shown-stopped _ _ _ _ _ _ _ _ _ (set-chosen _ _ _ _ _ _ _ (c .before .before .before .before .before .before .before .before .before .before .before .before .before .before .before .before .before .before .before .before .before .before .before .start-size .ensures) (part-violations (c .before .before .before .before .before .before .before .before .before .before .before .before .before .before .before .before .before .before .before .before .before .before .before .before .before .before .before .before .before .before .before .before .before .before .args .shape) (now (c .before .before .before .before .before .before .before .before .before .before .before .before .before .before .before .before .before .before .before .before .before .before .before .before .before .before .before .before .before .before .before .before .before .before .args .scratch)) ∙ c .before .before .before .before .before .before .before .before .before .before .before .before .before .before .before .before .before .before .before .before .before .before .before .before .before .before .before .before .before .before .before .before .before .before .pre .3) (set-built _ _ _ (start-most _ _ _ _ (c .before .before .before .before .before .before .before .before .before .before .before .before .before .before .before .before .before .before .before .before .before .before .before .start-size .ensures) (c .before .before .before .before .before .before .before .before .before .before .before .before .before .before .before .before .before .before .before .before .before .before .before .before .before .before .before .before .before .before .before .before .before .before .pre .0 .weights)) _ _ (c .before .before .before .before .before .before .before .before .before .before .before .before .before .before .before .before .before .before .construct-ws .ensures .0) (c .before .before .before .before .before .before .before .before .before .before .before .before .before .before .before .before .before .before .construct-ws .ensures .1))) _ _ _ _ (c .before .before .before .before .before .before .before .before .before .before .run-epochs .ensures .0) sets _ (c .before .before .c2 .given .1))),
-  c .before .before .before .before .before .before .before .before .before .before .run-epochs .ensures .1,
-  rw (c .one-more2 .ensures) (grown-by (c .before .before .before .before .before .before .before .before .before .before .before .before .before .before .before .before .before .before .before .before .before .before .before .before .before .before .before .before .before .before .before .before .before .before .args .totals) (c .before .before .before .before .before .before .before .before .before .before .before .before .before .before .before .before .before .before .before .before .before .before .before .before .before .before .before .before .before .before .before .before .before .before .args .v) (c .before .before .before .before .before .before .before .before .before .before .run-epochs .result) _ (ap (λ (r : InnerStep). countsOf r (c .before .before .before .before .before .before .before .before .before .before .before .before .before .before .before .before .before .before .before .before .before .before .before .before .before .before .before .before .before .before .before .before .before .before .args .totals .counts)) (c .before .before .c2 .given .1)) (c .before .before .before .before .before .before .before .before .before .before .run-epochs .ensures .2) (c .before .before .before .before .before .before .before .before .before .before .run-epochs .ensures .3)),
-)
+returns-2 c =
+    let at-run-epochs = c .before .before .before .before .before .before .before .before .before .before in
+    let at-construct-ws = at-run-epochs .before .before .before .before .before .before .before .before in
+    let at-start-size = at-construct-ws .before .before .before .before .before in
+    let entry = at-start-size .before .before .before .before .before .before .before .before .before .before .before in (
+      (λ sets. rw (c .one-more2 .ensures) (shown-stopped _ _ _ _ _ _ _ _ _ (set-chosen _ _ _ _ _ _ _ (at-start-size .start-size .ensures) (part-violations (entry .args .shape) (now (entry .args .scratch)) ∙ entry .pre .3) (set-built _ _ _ (start-most _ _ _ _ (at-start-size .start-size .ensures) (entry .pre .0 .weights)) _ _ (at-construct-ws .construct-ws .ensures .0) (at-construct-ws .construct-ws .ensures .1))) _ _ _ _ (at-run-epochs .run-epochs .ensures .0) sets _ (c .before .before .c2 .given .1))),
+      at-run-epochs .run-epochs .ensures .1,
+      rw (c .one-more2 .ensures)
+          (grown-by (entry .args .totals) (entry .args .v) (at-run-epochs .run-epochs .result) _ (ap (λ (r : InnerStep). countsOf r (entry .args .totals .counts)) (c .before .before .c2 .given .1)) (at-run-epochs .run-epochs .ensures .2) (at-run-epochs .run-epochs .ensures .3)),
+    )
 
 same-length-9 : tie.Need-same-length-9
 same-length-9 c = search needs
@@ -126,11 +177,15 @@ same-length-12 : tie.Need-same-length-12
 same-length-12 c = search needs
 
 returns-3 : tie.Need-returns-3
-returns-3 c = (
-  (λ sets. shown-bad _ _ _ _ _ _ _ _ _ (set-chosen _ _ _ _ _ _ _ (c .before .before .before .before .before .before .before .before .before .before .before .before .before .before .before .before .before .before .before .before .before .start-size .ensures) (part-violations (c .before .before .before .before .before .before .before .before .before .before .before .before .before .before .before .before .before .before .before .before .before .before .before .before .before .before .before .before .before .before .before .before .args .shape) (now (c .before .before .before .before .before .before .before .before .before .before .before .before .before .before .before .before .before .before .before .before .before .before .before .before .before .before .before .before .before .before .before .before .args .scratch)) ∙ c .before .before .before .before .before .before .before .before .before .before .before .before .before .before .before .before .before .before .before .before .before .before .before .before .before .before .before .before .before .before .before .before .pre .3) (set-built _ _ _ (start-most _ _ _ _ (c .before .before .before .before .before .before .before .before .before .before .before .before .before .before .before .before .before .before .before .before .before .start-size .ensures) (c .before .before .before .before .before .before .before .before .before .before .before .before .before .before .before .before .before .before .before .before .before .before .before .before .before .before .before .before .before .before .before .before .pre .0 .weights)) _ _ (c .before .before .before .before .before .before .before .before .before .before .before .before .before .before .before .before .construct-ws .ensures .0) (c .before .before .before .before .before .before .before .before .before .before .before .before .before .before .before .before .construct-ws .ensures .1))) _ _ _ _ (c .before .before .before .before .before .before .before .before .run-epochs .ensures .0) sets (c .enum-told .given .1)),
-  c .before .before .before .before .before .before .before .before .run-epochs .ensures .1,
-  grown-none _,
-)
+returns-3 c =
+    let at-run-epochs = c .before .before .before .before .before .before .before .before in
+    let at-construct-ws = at-run-epochs .before .before .before .before .before .before .before .before in
+    let at-start-size = at-construct-ws .before .before .before .before .before in
+    let entry = at-start-size .before .before .before .before .before .before .before .before .before .before .before in (
+      (λ sets. shown-bad _ _ _ _ _ _ _ _ _ (set-chosen _ _ _ _ _ _ _ (at-start-size .start-size .ensures) (part-violations (entry .args .shape) (now (entry .args .scratch)) ∙ entry .pre .3) (set-built _ _ _ (start-most _ _ _ _ (at-start-size .start-size .ensures) (entry .pre .0 .weights)) _ _ (at-construct-ws .construct-ws .ensures .0) (at-construct-ws .construct-ws .ensures .1))) _ _ _ _ (at-run-epochs .run-epochs .ensures .0) sets (c .enum-told .given .1)),
+      at-run-epochs .run-epochs .ensures .1,
+      grown-none _,
+    )
 
 pub iterate-spec : {M : Type 1} → statement M
 iterate-spec =

@@ -17,11 +17,24 @@ abbrev μ-loop : tie.MeasureT-loop
 μ-loop shape starts rows values y settings w₀ fit₀ indices₀ scratch₀ totals₀ t₀ w fit indices scratch totals t = settings .iterations + 1 - t
 
 loop-holds : tie.Need-loop-holds Inv-loop μ-loop
-loop-holds c = (search needs, refl, turned-none _ _ _ _ _ _ _ _ _ (c .before .before .before .before .before .before .before .before .pre .2) (c .before .before .before .before .before .before .before .before .pre .3) (c .before .before .before .before .before .before .before .before .pre .4))
+loop-holds c = (
+  search needs,
+  refl,
+  turned-none _ _ _ _ _ _ _ _ _ (c .before .before .before .before .before .before .before .before .pre .2)
+      (c .before .before .before .before .before .before .before .before .pre .3)
+      (c .before .before .before .before .before .before .before .before .pre .4),
+)
 
 turn-requires : tie.Need-turn-requires Inv-loop μ-loop
-turn-requires c κs = let R = c .before .before .before .before .before .before .loop .inv .2 in
-    (ready-still (c .before .before .before .before .before .before .before .before .before .before .before .before .before .before .before .pre .0) _ _ _ (R .held .weights) (R .held .fits) (R .held .room), c .before .before .before .before .before .before .loop .inv .1 ∙ c .before .before .before .before .before .before .before .before .before .before .before .before .before .before .before .pre .1, c .before .before .before .before .if1 .taken, R .totalled)
+turn-requires c κs =
+    let at-loop = c .before .before .before .before .before .before in
+    let entry = at-loop .before .before .before .before .before .before .before .before .before in
+    let R = at-loop .loop .inv .2 in (
+      ready-still (entry .pre .0) _ _ _ (R .held .weights) (R .held .fits) (R .held .room),
+      at-loop .loop .inv .1 ∙ entry .pre .1,
+      c .before .before .before .before .if1 .taken,
+      R .totalled,
+    )
 
 enum-known-c : tie.Need-enum-known-c Inv-loop μ-loop
 enum-known-c c = search needs
@@ -30,46 +43,101 @@ enum-known-c-2 : tie.Need-enum-known-c-2 Inv-loop μ-loop
 enum-known-c-2 c = search needs
 
 same-length : tie.Need-same-length Inv-loop μ-loop
-same-length c = c .before .before .before .before .before .before .before .before .before .before .before .turn .kept .1 .1 .1 .1 .1 .1 .1 .0 ∙ c .before .before .before .before .before .before .before .before .before .before .before .before .before .before .before .before .before .before .loop .inv .2 .held .weights
+same-length c =
+    let at-turn = c .before .before .before .before .before .before .before .before .before .before .before in
+    let at-loop = at-turn .before .before .before .before .before .before .before in
+    at-turn .turn .kept .1 .1 .1 .1 .1 .1 .1 .0 ∙ at-loop .loop .inv .2 .held .weights
 
 same-length-2 : tie.Need-same-length-2 Inv-loop μ-loop
-same-length-2 c = c .before .before .before .before .before .before .before .before .before .before .before .turn .kept .1 .1 .1 .1 .1 .1 .1 .1 .0 ∙ c .before .before .before .before .before .before .before .before .before .before .before .before .before .before .before .before .before .before .loop .inv .2 .held .fits
+same-length-2 c =
+    let at-turn = c .before .before .before .before .before .before .before .before .before .before .before in
+    let at-loop = at-turn .before .before .before .before .before .before .before in
+    at-turn .turn .kept .1 .1 .1 .1 .1 .1 .1 .1 .0 ∙ at-loop .loop .inv .2 .held .fits
 
 same-length-3 : tie.Need-same-length-3 Inv-loop μ-loop
-same-length-3 c = c .before .before .before .before .before .before .before .before .before .before .before .turn .kept .1 .1 .1 .1 .1 .1 .1 .1 .1 .0 ∙ c .before .before .before .before .before .before .before .before .before .before .before .before .before .before .before .before .before .before .loop .inv .1
+same-length-3 c =
+    let at-turn = c .before .before .before .before .before .before .before .before .before .before .before in
+    let at-loop = at-turn .before .before .before .before .before .before .before in
+    at-turn .turn .kept .1 .1 .1 .1 .1 .1 .1 .1 .1 .0 ∙ at-loop .loop .inv .1
 
 same-length-4 : tie.Need-same-length-4 Inv-loop μ-loop
-same-length-4 c = c .before .before .before .before .before .before .before .before .before .before .before .turn .kept .1 .1 .1 .1 .1 .1 .1 .1 .1 .1 .0 ∙ c .before .before .before .before .before .before .before .before .before .before .before .before .before .before .before .before .before .before .loop .inv .2 .held .room
+same-length-4 c =
+    let at-turn = c .before .before .before .before .before .before .before .before .before .before .before in
+    let at-loop = at-turn .before .before .before .before .before .before .before in
+    at-turn .turn .kept .1 .1 .1 .1 .1 .1 .1 .1 .1 .1 .0 ∙ at-loop .loop .inv .2 .held .room
 
 returns : tie.Need-returns Inv-loop μ-loop
-returns c = turned-stopped _ _ _ _ _ _ (c .before .before .before .before .before .before .before .before .before .before .before .before .before .before .before .before .before .before .loop .inv .2) _ _ _ _ (c .before .before .before .before .before .before .before .before .before .before .before .turn .ensures) (let h = c .before .before .before .before .before .before .before .before .before .before .before .before .before .before .before .before .if1 .taken in omega arith) _ (c .before .c2 .given .1)
+returns c =
+    turned-stopped _ _ _ _ _ _
+    (c .before .before .before .before .before .before .before .before .before .before .before .before .before .before .before .before .before .before .loop .inv .2)
+    _ _ _ _ (c .before .before .before .before .before .before .before .before .before .before .before .turn .ensures)
+    (let h =
+    c .before .before .before .before .before .before .before .before .before .before .before .before .before .before .before .before .if1 .taken
+    in
+    omega arith)
+    _ (c .before .c2 .given .1)
 
 enum-told : tie.Need-enum-told Inv-loop μ-loop
 enum-told c = search needs
 
 same-length-5 : tie.Need-same-length-5 Inv-loop μ-loop
-same-length-5 c = c .before .before .before .before .before .before .before .before .before .before .turn .kept .1 .1 .1 .1 .1 .1 .1 .0 ∙ c .before .before .before .before .before .before .before .before .before .before .before .before .before .before .before .before .before .loop .inv .2 .held .weights
+same-length-5 c =
+    let at-turn = c .before .before .before .before .before .before .before .before .before .before in
+    let at-loop = at-turn .before .before .before .before .before .before .before in
+    at-turn .turn .kept .1 .1 .1 .1 .1 .1 .1 .0 ∙ at-loop .loop .inv .2 .held .weights
 
 same-length-6 : tie.Need-same-length-6 Inv-loop μ-loop
-same-length-6 c = c .before .before .before .before .before .before .before .before .before .before .turn .kept .1 .1 .1 .1 .1 .1 .1 .1 .0 ∙ c .before .before .before .before .before .before .before .before .before .before .before .before .before .before .before .before .before .loop .inv .2 .held .fits
+same-length-6 c =
+    let at-turn = c .before .before .before .before .before .before .before .before .before .before in
+    let at-loop = at-turn .before .before .before .before .before .before .before in
+    at-turn .turn .kept .1 .1 .1 .1 .1 .1 .1 .1 .0 ∙ at-loop .loop .inv .2 .held .fits
 
 same-length-7 : tie.Need-same-length-7 Inv-loop μ-loop
-same-length-7 c = c .before .before .before .before .before .before .before .before .before .before .turn .kept .1 .1 .1 .1 .1 .1 .1 .1 .1 .0 ∙ c .before .before .before .before .before .before .before .before .before .before .before .before .before .before .before .before .before .loop .inv .1
+same-length-7 c =
+    let at-turn = c .before .before .before .before .before .before .before .before .before .before in
+    let at-loop = at-turn .before .before .before .before .before .before .before in
+    at-turn .turn .kept .1 .1 .1 .1 .1 .1 .1 .1 .1 .0 ∙ at-loop .loop .inv .1
 
 same-length-8 : tie.Need-same-length-8 Inv-loop μ-loop
-same-length-8 c = c .before .before .before .before .before .before .before .before .before .before .turn .kept .1 .1 .1 .1 .1 .1 .1 .1 .1 .1 .0 ∙ c .before .before .before .before .before .before .before .before .before .before .before .before .before .before .before .before .before .loop .inv .2 .held .room
+same-length-8 c =
+    let at-turn = c .before .before .before .before .before .before .before .before .before .before in
+    let at-loop = at-turn .before .before .before .before .before .before .before in
+    at-turn .turn .kept .1 .1 .1 .1 .1 .1 .1 .1 .1 .1 .0 ∙ at-loop .loop .inv .2 .held .room
 
 returns-2 : tie.Need-returns-2 Inv-loop μ-loop
-returns-2 c = turned-bad _ _ _ _ _ _ (c .before .before .before .before .before .before .before .before .before .before .before .before .before .before .before .before .before .loop .inv .2) _ _ _ _ (c .before .before .before .before .before .before .before .before .before .before .turn .ensures) (let h = c .before .before .before .before .before .before .before .before .before .before .before .before .before .before .before .if1 .taken in omega arith) (c .enum-told .given .1)
+returns-2 c =
+    turned-bad _ _ _ _ _ _
+    (c .before .before .before .before .before .before .before .before .before .before .before .before .before .before .before .before .before .loop .inv .2)
+    _ _ _ _ (c .before .before .before .before .before .before .before .before .before .before .turn .ensures)
+    (let h =
+    c .before .before .before .before .before .before .before .before .before .before .before .before .before .before .before .if1 .taken
+    in
+    omega arith)
+    (c .enum-told .given .1)
 
 add-t : tie.Need-add-t Inv-loop μ-loop
-add-t c = let few = few-iterations _ (c .before .before .before .before .before .before .before .before .before .before .before .before .before .before .before .before .before .before .before .before .before .before .before .before .before .before .before .pre .0 .legal) in search needs
+add-t c =
+    let few = few-iterations _
+    (c .before .before .before .before .before .before .before .before .before .before .before .before .before .before .before .before .before .before .before .before .before .before .before .before .before .before .before .pre .0 .legal)
+    in
+    search needs
 
 loop-less : tie.Need-loop-less Inv-loop μ-loop
 loop-less c = search needs
 
 loop-again : tie.Need-loop-again Inv-loop μ-loop
-loop-again c = (search needs, c .before .before .before .before .before .before .before .before .before .before .before .turn .kept .1 .1 .1 .1 .1 .1 .1 .1 .1 .0 ∙ c .before .before .before .before .before .before .before .before .before .before .before .before .before .before .before .before .before .before .loop .inv .1, turned-more _ _ _ _ _ _ (c .before .before .before .before .before .before .before .before .before .before .before .before .before .before .before .before .before .before .loop .inv .2) _ _ _ _ (c .before .before .before .before .before .before .before .before .before .before .before .turn .ensures) _ (c .before .c .given .1) (c .before .before .before .before .before .before .before .before .before .before .before .turn .kept .1 .1 .1 .1 .1 .1 .1 .0) (c .before .before .before .before .before .before .before .before .before .before .before .turn .kept .1 .1 .1 .1 .1 .1 .1 .1 .0) (c .before .before .before .before .before .before .before .before .before .before .before .turn .kept .1 .1 .1 .1 .1 .1 .1 .1 .1 .1 .0))
+loop-again c = (
+  search needs,
+  c .before .before .before .before .before .before .before .before .before .before .before .turn .kept .1 .1 .1 .1 .1 .1 .1 .1 .1 .0 ∙
+      c .before .before .before .before .before .before .before .before .before .before .before .before .before .before .before .before .before .before .loop .inv .1,
+  turned-more _ _ _ _ _ _
+      (c .before .before .before .before .before .before .before .before .before .before .before .before .before .before .before .before .before .before .loop .inv .2)
+      _ _ _ _ (c .before .before .before .before .before .before .before .before .before .before .before .turn .ensures) _
+      (c .before .c .given .1)
+      (c .before .before .before .before .before .before .before .before .before .before .before .turn .kept .1 .1 .1 .1 .1 .1 .1 .0)
+      (c .before .before .before .before .before .before .before .before .before .before .before .turn .kept .1 .1 .1 .1 .1 .1 .1 .1 .0)
+      (c .before .before .before .before .before .before .before .before .before .before .before .turn .kept .1 .1 .1 .1 .1 .1 .1 .1 .1 .1 .0),
+)
 
 same-length-9 : tie.Need-same-length-9 Inv-loop μ-loop
 same-length-9 c = c .before .before .loop .inv .2 .held .weights
@@ -84,7 +152,8 @@ same-length-12 : tie.Need-same-length-12 Inv-loop μ-loop
 same-length-12 c = c .before .before .loop .inv .2 .held .room
 
 returns-3 : tie.Need-returns-3 Inv-loop μ-loop
-returns-3 c = turned-all _ _ _ _ _ _ (c .before .before .loop .inv .2) (c .before .before .loop .inv .0) (let h = c .if1 .left in omega arith)
+returns-3 c =
+    turned-all _ _ _ _ _ _ (c .before .before .loop .inv .2) (c .before .before .loop .inv .0) (let h = c .if1 .left in omega arith)
 
 pub run-spec : {M : Type 1} → statement M
 run-spec =

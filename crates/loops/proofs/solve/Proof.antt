@@ -21,22 +21,65 @@ clear-requires-3 : tie.Need-clear-requires-3
 clear-requires-3 c κs = search needs
 
 slice-relend-prefix-prepare : tie.Need-slice-relend-prefix-prepare
-slice-relend-prefix-prepare c = cleared-room (c .before .before .before .before .before .before .before .before .before .before .before .before .before .before .before .before .before .before .before .before .before .pre .0) (c .before .before .clear3 .last .0) (c .before .before .clear3 .ensures)
+slice-relend-prefix-prepare c =
+    let entry =
+    c .before .before .before .before .before .before .before .before .before .before .before .before .before .before .before .before .before .before .before .before .before
+    in
+    cleared-room (entry .pre .0) (c .before .before .clear3 .last .0) (c .before .before .clear3 .ensures)
 
 slice-aggregate-prepare : tie.Need-slice-aggregate-prepare
-slice-aggregate-prepare c = sym (length-take-le _ _ (cleared-room (c .before .before .before .before .before .before .before .before .before .before .before .before .before .before .before .before .before .before .before .before .before .before .pre .0) (c .before .before .before .clear3 .last .0) (c .before .before .before .clear3 .ensures)))
+slice-aggregate-prepare c =
+    let at-clear3 = c .before .before .before in
+    let entry =
+    at-clear3 .before .before .before .before .before .before .before .before .before .before .before .before .before .before .before .before .before .before .before
+    in
+    sym (length-take-le _ _ (cleared-room (entry .pre .0) (at-clear3 .clear3 .last .0) (at-clear3 .clear3 .ensures)))
 
 prepare-requires : tie.Need-prepare-requires
-prepare-requires c κs = (c .before .before .before .before .before .before .before .before .before .before .before .before .before .before .before .before .before .before .before .before .before .before .pre .0 .samples, length-take-le _ _ (cleared-room (c .before .before .before .before .before .before .before .before .before .before .before .before .before .before .before .before .before .before .before .before .before .before .pre .0) (c .before .before .before .clear3 .last .0) (c .before .before .before .clear3 .ensures)), c .before .before .before .before .before .before .before .before .before .before .before .before .before .before .before .before .before .before .before .before .before .before .pre .0 .whole, le-of-eq (sym (c .before .before .before .before .before .before .before .before .before .before .before .before .before .before .before .before .before .before .before .before .before .before .pre .0 .targets)))
+prepare-requires c κs =
+    let at-clear3 = c .before .before .before in
+    let entry =
+    at-clear3 .before .before .before .before .before .before .before .before .before .before .before .before .before .before .before .before .before .before .before
+    in (
+      entry .pre .0 .samples,
+      length-take-le _ _ (cleared-room (entry .pre .0) (at-clear3 .clear3 .last .0) (at-clear3 .clear3 .ensures)),
+      entry .pre .0 .whole,
+      le-of-eq (sym (entry .pre .0 .targets)),
+    )
 
 slice-reshare-prefix-is-usable : tie.Need-slice-reshare-prefix-is-usable
-slice-reshare-prefix-is-usable c = prepared-room (c .before .before .before .before .before .before .before .before .before .before .before .before .before .before .before .before .before .before .before .before .before .before .before .before .before .pre .0) (c .before .before .before .before .before .before .clear3 .last .0) (c .before .before .before .before .before .before .clear3 .ensures) (c .before .before .prepare .last .1 .1 .1 .1 .1 .0) (c .before .before .prepare .kept .1 .1 .1 .1 .1 .0)
+slice-reshare-prefix-is-usable c =
+    let at-clear3 = c .before .before .before .before .before .before in
+    let entry =
+    at-clear3 .before .before .before .before .before .before .before .before .before .before .before .before .before .before .before .before .before .before .before
+    in
+    prepared-room (entry .pre .0) (at-clear3 .clear3 .last .0) (at-clear3 .clear3 .ensures)
+    (c .before .before .prepare .last .1 .1 .1 .1 .1 .0) (c .before .before .prepare .kept .1 .1 .1 .1 .1 .0)
 
 slice-aggregate-is-usable : tie.Need-slice-aggregate-is-usable
-slice-aggregate-is-usable c = sym (length-take-le _ _ (prepared-room (c .before .before .before .before .before .before .before .before .before .before .before .before .before .before .before .before .before .before .before .before .before .before .before .before .before .before .pre .0) (c .before .before .before .before .before .before .before .clear3 .last .0) (c .before .before .before .before .before .before .before .clear3 .ensures) (c .before .before .before .prepare .last .1 .1 .1 .1 .1 .0) (c .before .before .before .prepare .kept .1 .1 .1 .1 .1 .0)))
+slice-aggregate-is-usable c =
+    let at-prepare = c .before .before .before in
+    let at-clear3 = at-prepare .before .before .before .before in
+    let entry =
+    at-clear3 .before .before .before .before .before .before .before .before .before .before .before .before .before .before .before .before .before .before .before
+    in
+    sym
+    (length-take-le _ _
+    (prepared-room (entry .pre .0) (at-clear3 .clear3 .last .0) (at-clear3 .clear3 .ensures)
+    (at-prepare .prepare .last .1 .1 .1 .1 .1 .0) (at-prepare .prepare .kept .1 .1 .1 .1 .1 .0)))
 
 is-usable-requires : tie.Need-is-usable-requires
-is-usable-requires c κs = (c .before .before .before .before .before .before .before .before .before .before .before .before .before .before .before .before .before .before .before .before .before .before .before .before .before .before .pre .0 .features, length-take-le _ _ (prepared-room (c .before .before .before .before .before .before .before .before .before .before .before .before .before .before .before .before .before .before .before .before .before .before .before .before .before .before .pre .0) (c .before .before .before .before .before .before .before .clear3 .last .0) (c .before .before .before .before .before .before .before .clear3 .ensures) (c .before .before .before .prepare .last .1 .1 .1 .1 .1 .0) (c .before .before .before .prepare .kept .1 .1 .1 .1 .1 .0)))
+is-usable-requires c κs =
+    let at-prepare = c .before .before .before in
+    let at-clear3 = at-prepare .before .before .before .before in
+    let entry =
+    at-clear3 .before .before .before .before .before .before .before .before .before .before .before .before .before .before .before .before .before .before .before
+    in (
+      entry .pre .0 .features,
+      length-take-le _ _
+          (prepared-room (entry .pre .0) (at-clear3 .clear3 .last .0) (at-clear3 .clear3 .ensures)
+          (at-prepare .prepare .last .1 .1 .1 .1 .1 .0) (at-prepare .prepare .kept .1 .1 .1 .1 .1 .0)),
+    )
 
 same-length : tie.Need-same-length
 same-length c = search needs
@@ -48,16 +91,31 @@ same-length-3 : tie.Need-same-length-3
 same-length-3 c = search needs
 
 returns : tie.Need-returns
-returns c = solved-bad (c .before .before .before .before .before .before .before .before .before .before .before .before .before .before .before .before .before .before .before .before .before .before .before .before .before .before .before .before .pre .0) (c .before .before .before .before .before .before .before .before .before .clear3 .last .0) (c .before .before .before .before .before .before .before .before .before .clear3 .ensures) (c .before .before .before .before .before .prepare .last .1 .1 .1 .1 .1 .0) (c .before .before .before .before .before .prepare .kept .1 .1 .1 .1 .1 .0) (c .before .before .before .before .before .prepare .ensures) _ (c .before .is-usable .ensures) (c .if1 .left)
+returns c =
+    let at-prepare = c .before .before .before .before .before in
+    let at-clear3 = at-prepare .before .before .before .before in
+    let entry =
+    at-clear3 .before .before .before .before .before .before .before .before .before .before .before .before .before .before .before .before .before .before .before
+    in
+    solved-bad (entry .pre .0) (at-clear3 .clear3 .last .0) (at-clear3 .clear3 .ensures) (at-prepare .prepare .last .1 .1 .1 .1 .1 .0)
+    (at-prepare .prepare .kept .1 .1 .1 .1 .1 .0) (at-prepare .prepare .ensures) _ (c .before .is-usable .ensures) (c .if1 .left)
 
 run-requires : tie.Need-run-requires
-run-requires c κs = (
-  ready-still (c .before .before .before .before .before .before .before .before .before .before .before .before .before .before .before .before .before .before .before .before .before .before .before .before .before .before .before .before .before .before .before .before .pre .0) (c .before .before .before .before .before .before .before .before .before .before .before .before .before .before .before .before .before .before .before .before .before .clear .last .0) (c .before .before .before .before .before .before .before .before .before .before .before .before .before .before .before .before .before .clear2 .last .0) _ (c .before .before .before .before .before .before .before .before .before .before .before .before .before .before .before .before .before .before .before .before .before .clear .kept .0) (c .before .before .before .before .before .before .before .before .before .before .before .before .before .before .before .before .before .clear2 .kept .0) (prepared-long (c .before .before .before .before .before .before .before .before .before .before .before .before .before .before .before .before .before .before .before .before .before .before .before .before .before .before .before .before .before .before .before .before .pre .0) (c .before .before .before .before .before .before .before .before .before .before .before .before .before .clear3 .last .0) (c .before .before .before .before .before .before .before .before .before .before .before .before .before .clear3 .ensures) (c .before .before .before .before .before .before .before .before .before .prepare .last .1 .1 .1 .1 .1 .0) (c .before .before .before .before .before .before .before .before .before .prepare .kept .1 .1 .1 .1 .1 .0)),
-  c .before .before .before .before .before .before .before .before .before .before .before .before .before .before .before .before .before .before .before .before .before .before .before .before .before .before .before .before .before .before .before .before .pre .1,
-  c .before .before .before .before .before .before .before .before .before .before .before .before .before .before .before .before .before .before .before .before .before .clear .ensures ∙ rw (c .before .before .before .before .before .before .before .before .before .before .before .before .before .before .before .before .before .before .before .before .before .before .before .before .before .before .before .before .before .before .before .before .pre .0 .weights),
-  c .before .before .before .before .before .before .before .before .before .before .before .before .before .before .before .before .before .clear2 .ensures ∙ rw (c .before .before .before .before .before .before .before .before .before .before .before .before .before .before .before .before .before .before .before .before .before .before .before .before .before .before .before .before .before .before .before .before .pre .0 .fits),
-  prepared-kept (c .before .before .before .before .before .before .before .before .before .before .before .before .before .before .before .before .before .before .before .before .before .before .before .before .before .before .before .before .before .before .before .before .pre .0) (c .before .before .before .before .before .before .before .before .before .before .before .before .before .clear3 .last .0) (c .before .before .before .before .before .before .before .before .before .before .before .before .before .clear3 .ensures) (c .before .before .before .before .before .before .before .before .before .prepare .last .1 .1 .1 .1 .1 .0) (c .before .before .before .before .before .before .before .before .before .prepare .kept .1 .1 .1 .1 .1 .0),
-)
+run-requires c κs =
+    let at-prepare = c .before .before .before .before .before .before .before .before .before in
+    let at-clear3 = at-prepare .before .before .before .before in
+    let at-clear2 = at-clear3 .before .before .before .before in
+    let at-clear = at-clear2 .before .before .before .before in
+    let entry = at-clear .before .before .before .before .before .before .before .before .before .before .before in (
+      ready-still (entry .pre .0) (at-clear .clear .last .0) (at-clear2 .clear2 .last .0) _ (at-clear .clear .kept .0)
+          (at-clear2 .clear2 .kept .0)
+          (prepared-long (entry .pre .0) (at-clear3 .clear3 .last .0) (at-clear3 .clear3 .ensures) (at-prepare .prepare .last .1 .1 .1 .1 .1 .0) (at-prepare .prepare .kept .1 .1 .1 .1 .1 .0)),
+      entry .pre .1,
+      at-clear .clear .ensures ∙ rw (entry .pre .0 .weights),
+      at-clear2 .clear2 .ensures ∙ rw (entry .pre .0 .fits),
+      prepared-kept (entry .pre .0) (at-clear3 .clear3 .last .0) (at-clear3 .clear3 .ensures) (at-prepare .prepare .last .1 .1 .1 .1 .1 .0)
+          (at-prepare .prepare .kept .1 .1 .1 .1 .1 .0),
+    )
 
 same-length-4 : tie.Need-same-length-4
 same-length-4 c = search needs
@@ -72,7 +130,20 @@ same-length-7 : tie.Need-same-length-7
 same-length-7 c = search needs
 
 returns-2 : tie.Need-returns-2
-returns-2 c = rw (← solved-run (c .before .before .before .before .before .before .before .before .before .before .before .before .before .before .before .before .before .before .before .before .before .before .before .before .before .before .before .before .before .before .before .before .before .before .before .before .before .before .before .before .before .pre .0) (c .before .before .before .before .before .before .before .before .before .before .before .before .before .before .before .before .before .before .before .before .before .before .clear3 .last .0) (c .before .before .before .before .before .before .before .before .before .before .before .before .before .before .before .before .before .before .before .before .before .before .clear3 .ensures) (c .before .before .before .before .before .before .before .before .before .before .before .before .before .before .before .before .before .before .prepare .last .1 .1 .1 .1 .1 .0) (c .before .before .before .before .before .before .before .before .before .before .before .before .before .before .before .before .before .before .prepare .kept .1 .1 .1 .1 .1 .0) (c .before .before .before .before .before .before .before .before .before .before .before .before .before .before .before .before .before .before .prepare .ensures) _ (c .before .before .before .before .before .before .before .before .before .before .before .before .before .before .is-usable .ensures) (c .before .before .before .before .before .before .before .before .before .before .before .before .before .if1 .taken)) (c .before .before .before .before .before .before .before .before .run .ensures)
+returns-2 c =
+    let at-run = c .before .before .before .before .before .before .before .before in
+    let at-if1 = at-run .before .before .before .before .before in
+    let at-is-usable = at-if1 .before in
+    let at-prepare = at-is-usable .before .before .before .before in
+    let at-clear3 = at-prepare .before .before .before .before in
+    let entry =
+    at-clear3 .before .before .before .before .before .before .before .before .before .before .before .before .before .before .before .before .before .before .before
+    in
+    rw
+    (← solved-run (entry .pre .0) (at-clear3 .clear3 .last .0) (at-clear3 .clear3 .ensures) (at-prepare .prepare .last .1 .1 .1 .1 .1 .0)
+    (at-prepare .prepare .kept .1 .1 .1 .1 .1 .0) (at-prepare .prepare .ensures) _ (at-is-usable .is-usable .ensures)
+    (at-if1 .if1 .taken))
+    (at-run .run .ensures)
 
 pub solve-spec : {M : Type 1} → statement M
 solve-spec =

@@ -11,7 +11,15 @@ use Rattle.loops.proofs.turn.Statement.{statement}
 use Rattle.loops.proofs.turn.Tie as tie
 
 opt-cond-violation-requires : tie.Need-opt-cond-violation-requires
-opt-cond-violation-requires c κs = (c .before .before .before .before .before .before .before .before .before .before .before .pre .0 .samples, c .before .before .before .before .before .before .before .before .before .before .before .pre .0 .features, c .before .before .before .before .before .before .before .before .before .before .before .pre .0 .weights, room-for (c .before .before .before .before .before .before .before .before .before .before .before .pre .0), c .before .before .before .before .before .before .before .before .before .before .before .pre .0 .whole, c .before .before .before .before .before .before .before .before .before .before .before .pre .0 .fits)
+opt-cond-violation-requires c κs =
+    let entry = c .before .before .before .before .before .before .before .before .before .before .before in (
+      entry .pre .0 .samples,
+      entry .pre .0 .features,
+      entry .pre .0 .weights,
+      room-for (entry .pre .0),
+      entry .pre .0 .whole,
+      entry .pre .0 .fits,
+    )
 
 enum-told : tie.Need-enum-told
 enum-told c = search needs
@@ -32,12 +40,15 @@ same-length-3 : tie.Need-same-length-3
 same-length-3 c = search needs
 
 returns : tie.Need-returns
-returns c = (
-  (λ sets. turn-stops _ _ _ _ _ _ _ _ _ sets _ _ (sym (ap (λ (r : Worst). measuredOf r (c .before .before .before .before .before .before .before .before .opt-cond-violation .last .1 .1 .1 .1 .1 .1 .1 .0)) (c .before .before .before .before .v .given .1)) ∙ c .before .before .before .before .before .before .before .before .opt-cond-violation .ensures .0) _ (c .before .before .is-last .ensures) (c .before .if1 .taken) _
-      (kept-measured _ (c .before .before .before .before .before .before .before .before .before .before .before .before .before .before .before .before .before .before .before .before .args .shape) refl _ _ _ (room-for (c .before .before .before .before .before .before .before .before .before .before .before .before .before .before .before .before .before .before .before .before .pre .0)) _ (found-scratch _ _ _ _ _ _ (sym (ap (λ (r : Worst). measuredOf r (c .before .before .before .before .before .before .before .before .opt-cond-violation .last .1 .1 .1 .1 .1 .1 .1 .0)) (c .before .before .before .before .v .given .1)) ∙ c .before .before .before .before .before .before .before .before .opt-cond-violation .ensures .0)) (c .before .before .before .before .before .before .before .before .before .before .before .before .before .before .before .before .before .before .before .before .args .settings))),
-  c .before .before .before .before .before .before .before .before .opt-cond-violation .ensures .1,
-  totalled-more _ _ _ (c .before .before .before .before .before .before .before .before .before .before .before .before .before .before .before .before .before .before .before .before .pre .3) (grown-same _ _),
-)
+returns c =
+    let at-v = c .before .before .before .before in
+    let at-opt-cond-violation = at-v .before .before .before .before in
+    let entry = at-opt-cond-violation .before .before .before .before .before .before .before .before .before .before .before .before in (
+      (λ sets. turn-stops _ _ _ _ _ _ _ _ _ sets _ _ (sym (ap (λ (r : Worst). measuredOf r (at-opt-cond-violation .opt-cond-violation .last .1 .1 .1 .1 .1 .1 .1 .0)) (at-v .v .given .1)) ∙ at-opt-cond-violation .opt-cond-violation .ensures .0) _ (c .before .before .is-last .ensures) (c .before .if1 .taken) _
+          (kept-measured _ (entry .args .shape) refl _ _ _ (room-for (entry .pre .0)) _ (found-scratch _ _ _ _ _ _ (sym (ap (λ (r : Worst). measuredOf r (at-opt-cond-violation .opt-cond-violation .last .1 .1 .1 .1 .1 .1 .1 .0)) (at-v .v .given .1)) ∙ at-opt-cond-violation .opt-cond-violation .ensures .0)) (entry .args .settings))),
+      at-opt-cond-violation .opt-cond-violation .ensures .1,
+      totalled-more _ _ _ (entry .pre .3) (grown-same _ _),
+    )
 
 iterate-requires : tie.Need-iterate-requires
 iterate-requires c κs =
@@ -66,11 +77,13 @@ same-length-6 : tie.Need-same-length-6
 same-length-6 c = search needs
 
 returns-2 : tie.Need-returns-2
-returns-2 c = (
-  (λ sets. turn-bad _ _ _ _ _ _ _ _ _ sets (sym (ap (λ (r : Worst). measuredOf r (c .before .before .before .before .opt-cond-violation .last .1 .1 .1 .1 .1 .1 .1 .0)) (c .enum-told .given .1)) ∙ c .before .before .before .before .opt-cond-violation .ensures .0)),
-  c .before .before .before .before .opt-cond-violation .ensures .1,
-  totalled-more _ _ _ (c .before .before .before .before .before .before .before .before .before .before .before .before .before .before .before .before .pre .3) (grown-none _),
-)
+returns-2 c =
+    let at-opt-cond-violation = c .before .before .before .before in
+    let entry = at-opt-cond-violation .before .before .before .before .before .before .before .before .before .before .before .before in (
+      (λ sets. turn-bad _ _ _ _ _ _ _ _ _ sets (sym (ap (λ (r : Worst). measuredOf r (at-opt-cond-violation .opt-cond-violation .last .1 .1 .1 .1 .1 .1 .1 .0)) (c .enum-told .given .1)) ∙ at-opt-cond-violation .opt-cond-violation .ensures .0)),
+      at-opt-cond-violation .opt-cond-violation .ensures .1,
+      totalled-more _ _ _ (entry .pre .3) (grown-none _),
+    )
 
 same-length-7 : tie.Need-same-length-7
 same-length-7 c = search needs
@@ -85,12 +98,18 @@ same-length-10 : tie.Need-same-length-10
 same-length-10 c = search needs
 
 returns-3 : tie.Need-returns-3
-returns-3 c = (
-  (λ sets. turn-goes-on _ _ _ _ _ _ _ _ _ _ _ _ _ (room-for (c .before .before .before .before .before .before .before .before .before .before .before .before .before .before .before .before .before .before .before .before .before .before .before .before .before .before .before .before .before .before .before .before .pre .0)) (sym (ap (λ (r : Worst). measuredOf r (c .before .before .before .before .before .before .before .before .before .before .before .before .before .before .before .before .before .before .before .before .opt-cond-violation .last .1 .1 .1 .1 .1 .1 .1 .0)) (c .before .before .before .before .before .before .before .before .before .before .before .before .before .before .before .before .v .given .1)) ∙ c .before .before .before .before .before .before .before .before .before .before .before .before .before .before .before .before .before .before .before .before .opt-cond-violation .ensures .0) (c .before .before .before .before .before .before .before .before .before .before .before .before .before .before .before .before .before .before .before .before .opt-cond-violation .ensures .1) _ (c .before .before .before .before .before .before .before .before .before .before .before .before .before .before .is-last .ensures) (c .before .before .before .before .before .before .before .before .before .before .before .before .before .if1 .left) (c .before .before .before .before .before .before .before .before .iterate .result) (c .before .before .before .before .before .before .before .before .iterate .last .1 .1 .1 .1 .1 .1 .1 .0) (c .before .before .before .before .before .before .before .before .iterate .last .1 .1 .1 .1 .1 .1 .1 .1 .0) (c .before .before .before .before .before .before .before .before .iterate .last .1 .1 .1 .1 .1 .1 .1 .1 .1 .1 .0) sets
-      (c .before .before .before .before .before .before .before .before .iterate .ensures .0 sets)),
-  c .before .before .before .before .before .before .before .before .iterate .ensures .1 ∙ c .before .before .before .before .before .before .before .before .before .before .before .before .before .before .before .before .before .before .before .before .opt-cond-violation .ensures .1,
-  totalled-more _ _ _ (c .before .before .before .before .before .before .before .before .before .before .before .before .before .before .before .before .before .before .before .before .before .before .before .before .before .before .before .before .before .before .before .before .pre .3) (c .before .before .before .before .before .before .before .before .iterate .ensures .2),
-)
+returns-3 c =
+    let at-iterate = c .before .before .before .before .before .before .before .before in
+    let at-if1 = at-iterate .before .before .before .before .before in
+    let at-is-last = at-if1 .before in
+    let at-v = at-is-last .before .before in
+    let at-opt-cond-violation = at-v .before .before .before .before in
+    let entry = at-opt-cond-violation .before .before .before .before .before .before .before .before .before .before .before .before in (
+      (λ sets. turn-goes-on _ _ _ _ _ _ _ _ _ _ _ _ _ (room-for (entry .pre .0)) (sym (ap (λ (r : Worst). measuredOf r (at-opt-cond-violation .opt-cond-violation .last .1 .1 .1 .1 .1 .1 .1 .0)) (at-v .v .given .1)) ∙ at-opt-cond-violation .opt-cond-violation .ensures .0) (at-opt-cond-violation .opt-cond-violation .ensures .1) _ (at-is-last .is-last .ensures) (at-if1 .if1 .left) (at-iterate .iterate .result) (at-iterate .iterate .last .1 .1 .1 .1 .1 .1 .1 .0) (at-iterate .iterate .last .1 .1 .1 .1 .1 .1 .1 .1 .0) (at-iterate .iterate .last .1 .1 .1 .1 .1 .1 .1 .1 .1 .1 .0) sets
+          (at-iterate .iterate .ensures .0 sets)),
+      at-iterate .iterate .ensures .1 ∙ at-opt-cond-violation .opt-cond-violation .ensures .1,
+      totalled-more _ _ _ (entry .pre .3) (at-iterate .iterate .ensures .2),
+    )
 
 pub turn-spec : {M : Type 1} → statement M
 turn-spec =

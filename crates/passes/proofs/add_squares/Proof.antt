@@ -59,7 +59,10 @@ loop-less : tie.Need-loop-less Inv-loop μ-loop
 loop-less c = search needs
 
 loop-again : tie.Need-loop-again Inv-loop μ-loop
-loop-again c = let a = c .before .before .before .before in let h : a .loop .j < length (now (a .before .args .buf)) = omega arith in (search needs, search needs, rw (tab-here _ _ _ _ (a .loop .inv .2) nan h) (tab-more _ _ _ _ (a .loop .inv .2) _ h refl))
+loop-again c =
+    let a = c .before .before .before .before in
+    let h : a .loop .j < length (now (a .before .args .buf)) = omega arith in
+    (search needs, search needs, rw (tab-here _ _ _ _ (a .loop .inv .2) nan h) (tab-more _ _ _ _ (a .loop .inv .2) _ h refl))
 
 same-length : tie.Need-same-length Inv-loop μ-loop
 same-length c = search needs

@@ -11,7 +11,9 @@ enum-told : tie.Need-enum-told
 enum-told c = search needs
 
 dense-dots-requires : tie.Need-dense-dots-requires
-dense-dots-requires c κs = (room-sized refl (c .before .before .before .before .before .before .before .before .pre .0) _ (held-dense _ _ _ _ _ _ (c .before .enum-told .given .1) (c .before .before .before .before .before .before .before .before .pre .1)), c .before .before .before .before .before .before .before .before .pre .2)
+dense-dots-requires c κs =
+    let entry = c .before .before .before .before .before .before .before .before in
+    (room-sized refl (entry .pre .0) _ (held-dense _ _ _ _ _ _ (c .before .enum-told .given .1) (entry .pre .1)), entry .pre .2)
 
 enum-told-2 : tie.Need-enum-told-2
 enum-told-2 c = search needs
@@ -23,13 +25,18 @@ same-length : tie.Need-same-length
 same-length c = search needs
 
 returns : tie.Need-returns
-returns c = rw (as-dense _ _ _ _ _ _ (c .before .before .before .before .enum-told .given .1), ← dense-sized refl (c .before .before .before .before .before .before .before .before .before .before .before .pre .0)) (c .before .before .dense-dots .ensures)
+returns c =
+    let entry = c .before .before .before .before .before .before .before .before .before .before .before in
+    rw (as-dense _ _ _ _ _ _ (c .before .before .before .before .enum-told .given .1), ← dense-sized refl (entry .pre .0))
+    (c .before .before .dense-dots .ensures)
 
 same-length-2 : tie.Need-same-length-2
 same-length-2 c = search needs
 
 returns-2 : tie.Need-returns-2
-returns-2 c = as-dots _ _ _ (samples _ _ _ _ _ _) (features _ _ _ _ _ _) _ _ _ (c .before .before .before .before .before .before .before .before .before .before .before .pre .0) (c .before .before .dots-by-column .ensures)
+returns-2 c =
+    let entry = c .before .before .before .before .before .before .before .before .before .before .before in
+    as-dots _ _ _ (samples _ _ _ _ _ _) (features _ _ _ _ _ _) _ _ _ (entry .pre .0) (c .before .before .dots-by-column .ensures)
 
 pub all-dots-spec : {M : Type 1} → statement M
 all-dots-spec =

@@ -15,7 +15,9 @@ same-length : tie.Need-same-length
 same-length c = search needs
 
 returns : tie.Need-returns
-returns c = dots-grad _ _ _ (samples _ _ _ _ _ _) (features _ _ _ _ _ _) _ _ _ _ _ (search needs) (c .before .before .before .before .before .before .all-dots .ensures) (c .before .before .finish .ensures)
+returns c =
+    dots-grad _ _ _ (samples _ _ _ _ _ _) (features _ _ _ _ _ _) _ _ _ _ _ (search needs)
+    (c .before .before .before .before .before .before .all-dots .ensures) (c .before .before .finish .ensures)
 
 pub all-gradients-spec : {M : Type 1} → statement M
 all-gradients-spec = tie.close (tie.spec all-dots-requires finish-requires same-length returns)

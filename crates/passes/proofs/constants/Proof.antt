@@ -15,7 +15,9 @@ same-length : tie.Need-same-length
 same-length c = search needs
 
 returns : tie.Need-returns
-returns c = squares-constants _ _ _ (samples _ _ _ _ _ _) (features _ _ _ _ _ _) _ _ _ (search needs) (c .before .before .before .before .before .before .all-squares .ensures) (c .before .before .divide .ensures)
+returns c =
+    squares-constants _ _ _ (samples _ _ _ _ _ _) (features _ _ _ _ _ _) _ _ _ (search needs)
+    (c .before .before .before .before .before .before .all-squares .ensures) (c .before .before .divide .ensures)
 
 pub constants-spec : {M : Type 1} → statement M
 constants-spec = tie.close (tie.spec all-squares-requires divide-requires same-length returns)

@@ -19,7 +19,11 @@ abbrev μ-loop : tie.MeasureT-loop
 μ-loop n values buf₀ i₀ buf i = n - i
 
 inside : (c : tie.In-loop Inv-loop μ-loop) → c .before .loop .i * length (c .before .loop .buf) + length (c .before .loop .buf) ≤ length (now (c .before .before .before .before .before .before .before .before .args .values))
-inside c = row-inside (c .before .before .before .before .before .before .before .before .args .n) (length (now (c .before .before .before .before .before .before .before .before .args .buf))) (length (c .before .loop .buf)) (c .before .loop .i) (length (now (c .before .before .before .before .before .before .before .before .args .values))) (c .loop-test .taken) (omega arith) (c .before .before .before .before .before .before .before .before .pre)
+inside c =
+    row-inside (c .before .before .before .before .before .before .before .before .args .n)
+    (length (now (c .before .before .before .before .before .before .before .before .args .buf))) (length (c .before .loop .buf))
+    (c .before .loop .i) (length (now (c .before .before .before .before .before .before .before .before .args .values)))
+    (c .loop-test .taken) (omega arith) (c .before .before .before .before .before .before .before .before .pre)
 
 clear-requires : tie.Need-clear-requires Inv-loop μ-loop
 clear-requires c κs = search needs
@@ -40,14 +44,30 @@ loop-less : tie.Need-loop-less Inv-loop μ-loop
 loop-less c = search needs
 
 loop-again : tie.Need-loop-again Inv-loop μ-loop
-loop-again c = (search needs, search needs, sums-turn (λ q k j. at (now (c .before .before .before .before .before .before .before .before .before .before .before .before .args .values)) (k * q + j) ⊗ at (now (c .before .before .before .before .before .before .before .before .before .before .before .before .args .values)) (k * q + j)) _ _ _ _ (c .before .before .before .before .before .loop .inv .2) (c .before .before .before .before .before .loop .inv .1) (c .before .before .add-squares .ensures))
+loop-again c = (
+  search needs,
+  search needs,
+  sums-turn
+      (λ q k j.
+      at (now (c .before .before .before .before .before .before .before .before .before .before .before .before .args .values))
+      (k * q + j) ⊗ at
+      (now (c .before .before .before .before .before .before .before .before .before .before .before .before .args .values))
+      (k * q + j))
+      _ _ _ _ (c .before .before .before .before .before .loop .inv .2) (c .before .before .before .before .before .loop .inv .1)
+      (c .before .before .add-squares .ensures),
+)
 
 same-length : tie.Need-same-length Inv-loop μ-loop
 same-length c = search needs
 
 returns : tie.Need-returns Inv-loop μ-loop
 unfolding squares dense
-returns c = sums-all (λ q k j. at (now (c .before .before .before .before .before .before .before .before .args .values)) (k * q + j) ⊗ at (now (c .before .before .before .before .before .before .before .before .args .values)) (k * q + j)) _ _ _ _ _ (c .before .loop .inv .2) (search needs) (c .before .loop .inv .0) (c .loop-test .left)
+returns c =
+    sums-all
+    (λ q k j.
+    at (now (c .before .before .before .before .before .before .before .before .args .values)) (k * q + j) ⊗ at
+    (now (c .before .before .before .before .before .before .before .before .args .values)) (k * q + j))
+    _ _ _ _ _ (c .before .loop .inv .2) (search needs) (c .before .loop .inv .0) (c .loop-test .left)
 
 pub dense-squares-spec : {M : Type 1} → statement M
 dense-squares-spec =

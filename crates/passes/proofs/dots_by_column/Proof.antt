@@ -20,7 +20,11 @@ loop-holds : tie.Need-loop-holds Inv-loop μ-loop
 loop-holds c = (search needs, search needs, tab-none _ _)
 
 column-dot-requires : tie.Need-column-dot-requires Inv-loop μ-loop
-column-dot-requires c κs = (search needs, c .before .before .before .before .before .before .before .pre .1, c .before .before .before .before .before .before .before .pre .2)
+column-dot-requires c κs = (
+  search needs,
+  c .before .before .before .before .before .before .before .pre .1,
+  c .before .before .before .before .before .before .before .pre .2,
+)
 
 mul-buf : tie.Need-mul-buf Inv-loop μ-loop
 mul-buf c = search needs

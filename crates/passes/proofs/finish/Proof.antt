@@ -57,8 +57,11 @@ loop-less c = search needs
 loop-again : tie.Need-loop-again Inv-loop μ-loop
 loop-again c =
     let a = c .before .before .before .before in
-    let h : a .loop .j < length (now (a .before .before .before .args .buf)) = omega arith in
-    (search needs, search needs, tab-more _ _ _ _ (a .loop .inv .2) _ h (c .gradient-from .ensures ∙ rw (tab-here _ _ _ _ (a .loop .inv .2) nan h)))
+    let h : a .loop .j < length (now (a .before .before .before .args .buf)) = omega arith in (
+      search needs,
+      search needs,
+      tab-more _ _ _ _ (a .loop .inv .2) _ h (c .gradient-from .ensures ∙ rw (tab-here _ _ _ _ (a .loop .inv .2) nan h)),
+    )
 
 same-length : tie.Need-same-length Inv-loop μ-loop
 same-length c = search needs

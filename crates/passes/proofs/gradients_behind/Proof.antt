@@ -36,7 +36,9 @@ same-length c = search needs
 
 returns : tie.Need-returns
 returns c =
-    let entry = c .before .before .before .before .before .before .before .before .before .before .before .before .before .before .before in
+    let at-there = c .before .before .before .before .before .before .before .before .before .before .before .before .before .before .before
+    in
+    let entry = at-there in
     let X = design (entry .args .shape) (now (entry .args .starts)) (now (entry .args .rows)) (now (entry .args .values)) in
     gradients-lent X _ _ (samples _ _ _ _ _ _) (features _ _ _ _ _ _) _ (now (entry .args .buf)) (entry .pre .2) _ _
     (c .before .before .before .before .before .before .all-dots .ensures)

@@ -37,7 +37,8 @@ loop-less : tie.Need-loop-less Inv-loop μ-loop
 loop-less c = search needs
 
 loop-again : tie.Need-loop-again Inv-loop μ-loop
-loop-again c = (search needs, steps-turn _ _ _ _ _ (c .before .before .before .before .loop .inv .1) (c .larger .ensures ∙ rw (c .before .abs .ensures)))
+loop-again c =
+    (search needs, steps-turn _ _ _ _ _ (c .before .before .before .before .loop .inv .1) (c .larger .ensures ∙ rw (c .before .abs .ensures)))
 
 returns : tie.Need-returns Inv-loop μ-loop
 returns c = steps-all _ _ _ _ _ (c .before .loop .inv .1) (c .before .loop .inv .0) (c .loop-test .left)

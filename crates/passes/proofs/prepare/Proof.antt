@@ -16,7 +16,11 @@ slice-aggregate-constants : tie.Need-slice-aggregate-constants
 slice-aggregate-constants c = sym (length-take-le _ _ (omega arith))
 
 constants-requires : tie.Need-constants-requires
-constants-requires c κs = (c .before .before .before .before .before .before .pre .0, length-take-le _ _ (omega arith), c .before .before .before .before .before .before .pre .2)
+constants-requires c κs = (
+  c .before .before .before .before .before .before .pre .0,
+  length-take-le _ _ (omega arith),
+  c .before .before .before .before .before .before .pre .2,
+)
 
 mul-all-dots : tie.Need-mul-all-dots
 mul-all-dots c = search needs
@@ -37,7 +41,12 @@ same-length : tie.Need-same-length
 same-length c = search needs
 
 returns : tie.Need-returns
-returns c = halves _ _ _ (samples _ _ _ _ _ _) (features _ _ _ _ _ _) _ (c .before .before .before .before .before .before .constants .last .1 .1 .1 .1 .0) (c .before .before .all-dots .last .1 .1 .1 .1 .1 .0) (now (c .before .before .before .before .before .before .before .before .before .before .before .before .before .args .buf)) (c .before .before .before .before .before .before .constants .ensures) (c .before .before .all-dots .ensures) (c .before .before .before .before .before .before .before .before .before .before .before .before .before .pre .1)
+returns c =
+    let at-constants = c .before .before .before .before .before .before in
+    let entry = at-constants .before .before .before .before .before .before .before in
+    halves _ _ _ (samples _ _ _ _ _ _) (features _ _ _ _ _ _) _ (at-constants .constants .last .1 .1 .1 .1 .0)
+    (c .before .before .all-dots .last .1 .1 .1 .1 .1 .0) (now (entry .args .buf)) (at-constants .constants .ensures)
+    (c .before .before .all-dots .ensures) (entry .pre .1)
 
 pub prepare-spec : {M : Type 1} → statement M
 prepare-spec =

@@ -14,13 +14,18 @@ slice-aggregate-all-gradients : tie.Need-slice-aggregate-all-gradients
 slice-aggregate-all-gradients c = sym (length-take-le _ _ (c .before .before .before .before .before .before .before .pre .4))
 
 all-gradients-requires : tie.Need-all-gradients-requires
-all-gradients-requires c κs = (c .before .before .before .before .before .before .before .pre .0, length-take-le _ _ (c .before .before .before .before .before .before .before .pre .4), c .before .before .before .before .before .before .before .pre .2, c .before .before .before .before .before .before .before .pre .3, c .before .before .before .before .before .before .before .pre .1)
+all-gradients-requires c κs =
+    let entry = c .before .before .before .before .before .before .before in
+    (entry .pre .0, length-take-le _ _ (entry .pre .4), entry .pre .2, entry .pre .3, entry .pre .1)
 
 same-length : tie.Need-same-length
 same-length c = search needs
 
 returns : tie.Need-returns
-returns c = put-front (now (c .before .before .before .before .before .before .before .before .before .before .args .grad)) (c .before .before .before .before .before .before .before .before .before .before .args .shape .p) (c .before .before .all-gradients .last .1 .1 .1 .1 .1 .1 .0) _ (c .before .before .before .before .before .before .before .before .before .before .pre .4) (c .before .before .all-gradients .kept .1 .1 .1 .1 .1 .1 .0) (c .before .before .all-gradients .ensures)
+returns c =
+    let entry = c .before .before .before .before .before .before .before .before .before .before in
+    put-front (now (entry .args .grad)) (entry .args .shape .p) (c .before .before .all-gradients .last .1 .1 .1 .1 .1 .1 .0) _
+    (entry .pre .4) (c .before .before .all-gradients .kept .1 .1 .1 .1 .1 .1 .0) (c .before .before .all-gradients .ensures)
 
 pub full-grad-spec : {M : Type 1} → statement M
 full-grad-spec =

@@ -18,13 +18,19 @@ slice-aggregate-prepare : tie.Need-slice-aggregate-prepare
 slice-aggregate-prepare c = sym (length-take-le _ _ (c .before .before .before .before .before .before .before .pre .1))
 
 prepare-requires : tie.Need-prepare-requires
-prepare-requires c κs = (c .before .before .before .before .before .before .before .pre .0, length-take-le _ _ (c .before .before .before .before .before .before .before .pre .1), c .before .before .before .before .before .before .before .pre .2, c .before .before .before .before .before .before .before .pre .3)
+prepare-requires c κs =
+    let entry = c .before .before .before .before .before .before .before in
+    (entry .pre .0, length-take-le _ _ (entry .pre .1), entry .pre .2, entry .pre .3)
 
 same-length : tie.Need-same-length
 same-length c = search needs
 
 returns : tie.Need-returns
-returns c = put-front (now (c .before .before .before .before .before .before .before .before .before .before .args .prepared)) (c .before .before .before .before .before .before .before .before .before .before .args .shape .p + c .before .before .before .before .before .before .before .before .before .before .args .shape .p) (c .before .before .prepare .last .1 .1 .1 .1 .1 .0) _ (c .before .before .before .before .before .before .before .before .before .before .pre .1) (c .before .before .prepare .kept .1 .1 .1 .1 .1 .0) (c .before .before .prepare .ensures)
+returns c =
+    let entry = c .before .before .before .before .before .before .before .before .before .before in
+    put-front (now (entry .args .prepared)) (entry .args .shape .p + entry .args .shape .p)
+    (c .before .before .prepare .last .1 .1 .1 .1 .1 .0) _ (entry .pre .1) (c .before .before .prepare .kept .1 .1 .1 .1 .1 .0)
+    (c .before .before .prepare .ensures)
 
 pub initialize-spec : {M : Type 1} → statement M
 initialize-spec =

@@ -14,13 +14,20 @@ slice-aggregate-alpha-max : tie.Need-slice-aggregate-alpha-max
 slice-aggregate-alpha-max c = sym (length-take-le _ _ (c .before .before .before .before .before .before .pre .1))
 
 alpha-max-requires : tie.Need-alpha-max-requires
-alpha-max-requires c κs = (c .before .before .before .before .before .before .pre .0, length-take-le _ _ (c .before .before .before .before .before .before .pre .1), c .before .before .before .before .before .before .pre .2, c .before .before .before .before .before .before .pre .3)
+alpha-max-requires c κs =
+    let entry = c .before .before .before .before .before .before in
+    (entry .pre .0, length-take-le _ _ (entry .pre .1), entry .pre .2, entry .pre .3)
 
 same-length : tie.Need-same-length
 same-length c = search needs
 
 returns : tie.Need-returns
-returns c = (c .before .before .alpha-max .ensures .0, put-front (now (c .before .before .before .before .before .before .before .before .before .args .xty)) (c .before .before .before .before .before .before .before .before .before .args .shape .p) (c .before .before .alpha-max .last .1 .1 .1 .1 .1 .0) _ (c .before .before .before .before .before .before .before .before .before .pre .1) (c .before .before .alpha-max .kept .1 .1 .1 .1 .1 .0) (c .before .before .alpha-max .ensures .1))
+returns c =
+    let entry = c .before .before .before .before .before .before .before .before .before in (
+      c .before .before .alpha-max .ensures .0,
+      put-front (now (entry .args .xty)) (entry .args .shape .p) (c .before .before .alpha-max .last .1 .1 .1 .1 .1 .0) _ (entry .pre .1)
+          (c .before .before .alpha-max .kept .1 .1 .1 .1 .1 .0) (c .before .before .alpha-max .ensures .1),
+    )
 
 pub largest-of-spec : {M : Type 1} → statement M
 largest-of-spec =

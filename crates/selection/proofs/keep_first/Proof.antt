@@ -24,7 +24,8 @@ mul-keep c =
 
 shared-slice-read-keep : tie.Need-shared-slice-read-keep Inv-loop μ-loop
 shared-slice-read-keep c =
-    first-inside (c .before .before .loop .inv) (let e = c .before .loop-test .taken in search needs) (c .before .before .before .before .before .pre .1)
+    first-inside (c .before .before .loop .inv) (let e = c .before .loop-test .taken in search needs)
+    (c .before .before .before .before .before .pre .1)
 
 keep-requires : tie.Need-keep-requires Inv-loop μ-loop
 keep-requires c κs =
@@ -40,7 +41,8 @@ add-j c = search needs
 loop-less : tie.Need-loop-less Inv-loop μ-loop
 loop-less c =
     let at-test = c .before .before .before .before .before in
-    let h = first-inside (at-test .before .loop .inv) (let e = at-test .loop-test .taken in search needs) (at-test .before .before .before .before .pre .1) in
+    let h = first-inside (at-test .before .loop .inv) (let e = at-test .loop-test .taken in search needs)
+    (at-test .before .before .before .before .pre .1) in
     search needs
 
 loop-again : tie.Need-loop-again Inv-loop μ-loop

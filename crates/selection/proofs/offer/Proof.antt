@@ -33,14 +33,18 @@ returns : tie.Need-returns
 unfolding offered _and_
 returns c =
     let sunk = c .before .before .sink in
-    let at-ahead = c .before .before .before .before in
-    (sunk .ensures .0, rw (at-ahead .before .before .before .if1 .taken, ← at-ahead .before .ahead .ensures, at-ahead .if2 .taken) (sunk .ensures .1))
+    let at-ahead = c .before .before .before .before in (
+      sunk .ensures .0,
+      rw (at-ahead .before .before .before .if1 .taken, ← at-ahead .before .ahead .ensures, at-ahead .if2 .taken) (sunk .ensures .1),
+    )
 
 returns-2 : tie.Need-returns-2
 unfolding offered _and_
 returns-2 c =
-    let entry = c .before .before .before .before .before .before in
-    (entry .pre .5, rw (c .before .before .before .if1 .taken, ← c .before .ahead .ensures, c .if2 .left) (same-self (now (entry .args .kept))))
+    let entry = c .before .before .before .before .before .before in (
+      entry .pre .5,
+      rw (c .before .before .before .if1 .taken, ← c .before .ahead .ensures, c .if2 .left) (same-self (now (entry .args .kept))),
+    )
 
 returns-3 : tie.Need-returns-3
 unfolding offered _and_

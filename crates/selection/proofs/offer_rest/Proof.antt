@@ -13,7 +13,8 @@ abbrev μ-loop : tie.MeasureT-loop
 μ-loop kkt w kept₀ from j₀ kept j = j
 
 loop-holds : tie.Need-loop-holds Inv-loop μ-loop
-loop-holds c = let entry = c .before .before .before in rest-none (entry .pre .2) (entry .pre .5) (entry .pre .4) (entry .pre .6) (entry .pre .7)
+loop-holds c =
+    let entry = c .before .before .before in rest-none (entry .pre .2) (entry .pre .5) (entry .pre .4) (entry .pre .6) (entry .pre .7)
 
 sub-j : tie.Need-sub-j Inv-loop μ-loop
 sub-j c = search needs
@@ -34,8 +35,14 @@ offer-requires c κs =
     let most = inv .high in
     let some = entry .pre .0 in
     let room = entry .pre .1 in
-    let few = entry .pre .3 in
-    (omega arith, omega arith, omega arith, inv .known, rest-number (entry .pre .2) (entry .pre .5) inv (at-test .before .loop .j - 1) (omega arith), inv .heap)
+    let few = entry .pre .3 in (
+      omega arith,
+      omega arith,
+      omega arith,
+      inv .known,
+      rest-number (entry .pre .2) (entry .pre .5) inv (at-test .before .loop .j - 1) (omega arith),
+      inv .heap,
+    )
 
 loop-less : tie.Need-loop-less Inv-loop μ-loop
 loop-less c = search needs

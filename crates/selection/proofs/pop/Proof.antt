@@ -32,13 +32,16 @@ slice-relend-prefix-sink : tie.Need-slice-relend-prefix-sink
 slice-relend-prefix-sink c =
     let entry = c .before .before .before .before in
     let two = entry .pre .0 in
-    pop-end (features (now (entry .args .kkt))) (length (now (entry .args .kept)) - 1) (entry .pre .2) (entry .pre .3) (omega arith) (omega arith)
+    pop-end (features (now (entry .args .kkt))) (length (now (entry .args .kept)) - 1) (entry .pre .2) (entry .pre .3) (omega arith)
+    (omega arith)
 
 slice-aggregate-sink : tie.Need-slice-aggregate-sink
 slice-aggregate-sink c =
     let entry = c .before .before .before .before .before in
     let two = entry .pre .0 in
-    sym (front-long (features (now (entry .args .kkt))) (length (now (entry .args .kept)) - 1) (entry .pre .2) (entry .pre .3) (omega arith) (omega arith))
+    sym
+    (front-long (features (now (entry .args .kkt))) (length (now (entry .args .kept)) - 1) (entry .pre .2) (entry .pre .3) (omega arith)
+    (omega arith))
 
 sink-requires : tie.Need-sink-requires
 sink-requires c κs =
@@ -60,7 +63,8 @@ same-length c =
     let entry = c .before .before .before .before .before .before .before .before in
     let two = entry .pre .0 in
     let sunk = c .before .before .sink in
-    pop-long (features (now (entry .args .kkt))) (length (now (entry .args .kept)) - 1) (entry .pre .2) (entry .pre .3) (omega arith) (omega arith)
+    pop-long (features (now (entry .args .kkt))) (length (now (entry .args .kept)) - 1) (entry .pre .2) (entry .pre .3) (omega arith)
+    (omega arith)
     (sunk .last .1 .0) (sunk .kept .1 .0)
 
 returns : tie.Need-returns
@@ -72,7 +76,8 @@ returns c =
     let known = entry .pre .2 in
     let heap = entry .pre .3 in
     let sunk = c .before .before .sink in (
-      pop-front order end known heap (omega arith) (omega arith) (sunk .last .1 .0) (sunk .kept .1 .0) (sunk .ensures .1) (sunk .ensures .0),
+      pop-front order end known heap (omega arith) (omega arith) (sunk .last .1 .0) (sunk .kept .1 .0) (sunk .ensures .1)
+          (sunk .ensures .0),
       pop-ends order end known heap (omega arith) (omega arith) (sunk .last .1 .0) (sunk .kept .1 .0) (sunk .ensures .1),
       pop-same order end known heap (omega arith) (omega arith) (sunk .last .1 .0) (sunk .kept .1 .0) (sunk .ensures .1),
     )

@@ -18,9 +18,13 @@ heapify-requires : tie.Need-heapify-requires
 heapify-requires c κs =
     let at-first = c .before .before .before in
     let entry = at-first .before .before .before .before .before .before in
-    let few = room-few (now (entry .args .kkt)) (now (entry .args .w)) (length (now (entry .args .ranked))) 8192 (entry .pre .2) (entry .pre .1) in
-    let long = at-first .keep-first .kept .1 .0 in
-    (omega arith, first-known (entry .pre .0) (entry .pre .3) (at-first .keep-first .ensures .0) (at-first .keep-first .ensures .1 (now (entry .args .kkt))))
+    let few = room-few (now (entry .args .kkt)) (now (entry .args .w)) (length (now (entry .args .ranked))) 8192 (entry .pre .2)
+    (entry .pre .1) in
+    let long = at-first .keep-first .kept .1 .0 in (
+      omega arith,
+      first-known (entry .pre .0) (entry .pre .3) (at-first .keep-first .ensures .0)
+          (at-first .keep-first .ensures .1 (now (entry .args .kkt))),
+    )
 
 offer-rest-requires : tie.Need-offer-rest-requires
 offer-rest-requires c κs =
@@ -31,7 +35,8 @@ offer-rest-requires c κs =
     let first = at-first .keep-first in
     let made = at-heap .heapify in
     let some = at-some .if1 .taken in
-    let few = room-few (now (entry .args .kkt)) (now (entry .args .w)) (length (now (entry .args .ranked))) 8192 (entry .pre .2) (entry .pre .1) in
+    let few = room-few (now (entry .args .kkt)) (now (entry .args .w)) (length (now (entry .args .ranked))) 8192 (entry .pre .2)
+    (entry .pre .1) in
     let long = first .kept .1 .0 in
     let long' = made .kept .1 .0 in (
       omega arith,
@@ -50,7 +55,8 @@ sort-requires c κs =
     let at-heap = at-rest .before .before .before .before in
     let at-first = at-heap .before .before .before .before in
     let entry = at-first .before .before .before .before .before .before in
-    let few = room-few (now (entry .args .kkt)) (now (entry .args .w)) (length (now (entry .args .ranked))) 8192 (entry .pre .2) (entry .pre .1) in
+    let few = room-few (now (entry .args .kkt)) (now (entry .args .w)) (length (now (entry .args .ranked))) 8192 (entry .pre .2)
+    (entry .pre .1) in
     let long = at-first .keep-first .kept .1 .0 in
     let long' = at-heap .heapify .kept .1 .0 in
     let long'' = at-rest .offer-rest .kept .1 .1 .0 in

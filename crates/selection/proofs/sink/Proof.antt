@@ -17,7 +17,8 @@ below-requires : tie.Need-below-requires Inv-loop μ-loop
 below-requires c κs = let entry = c .before .before .before in (entry .pre .0, entry .pre .1, entry .pre .2, entry .pre .3)
 
 loop-holds : tie.Need-loop-holds Inv-loop μ-loop
-loop-holds c = let entry = c .before .before .before .before in sunk-none (entry .pre .0) (entry .pre .2) (entry .pre .4) (c .below .ensures)
+loop-holds c =
+    let entry = c .before .before .before .before in sunk-none (entry .pre .0) (entry .pre .2) (entry .pre .4) (c .below .ensures)
 
 mul-kept : tie.Need-mul-kept Inv-loop μ-loop
 mul-kept c = let h = sunk-inside (c .before .loop .inv) (c .loop-test .taken) in search needs
@@ -42,7 +43,9 @@ loop-less : tie.Need-loop-less Inv-loop μ-loop
 loop-less c = sunk-less (c .before .before .before .before .loop .inv) (c .before .before .before .loop-test .taken)
 
 loop-again : tie.Need-loop-again Inv-loop μ-loop
-loop-again c = sunk-turn (c .before .before .before .before .loop .inv) (c .before .before .before .loop-test .taken) (c .below2 .result) (c .below2 .ensures)
+loop-again c =
+    sunk-turn (c .before .before .before .before .loop .inv) (c .before .before .before .loop-test .taken) (c .below2 .result)
+    (c .below2 .ensures)
 
 mul-kept-3 : tie.Need-mul-kept-3 Inv-loop μ-loop
 mul-kept-3 c = search needs

@@ -48,13 +48,19 @@ same-length-4 : tie.Need-same-length-4
 same-length-4 c = search needs
 
 returns : tie.Need-returns
-returns c = let e = run-stopped _ (c .before .before .before .before .before .before .before .before .before .before .before .before .before .before .before .before .before .before .before .before .before .before .before .before .before .before .before .before .before .before .before .before .before .args .shape .p) (c .before .before .before .before .before .before .before .before .before .before .before .before .before .before .before .before .before .before .before .before .before .before .before .before .before .before .before .before .before .before .before .before .before .args .shape .n) _ _ _ _ _ (c .before .before .before .before .before .before .before .before .before .before .before .before .before .before .before .before .before .before .before .before .solve .ensures) _ (c .before .before .done .given .1) _ (c .report .ensures) in (
-  e .0,
-  e .1,
-  e .2,
-  c .before .before .before .before .before .before .clear-indices .ensures ∙ ap (tab {A = ℕ} (λ j. 0)) (c .before .before .before .before .before .before .before .before .before .before .before .before .before .before .before .before .before .before .before .before .solve .kept .1 .1 .1 .1 .1 .1 .1 .1 .0 ∙ c .before .before .before .before .before .before .before .before .before .before .before .before .before .before .before .before .before .before .before .before .before .before .before .before .before .before .before .before .before .before .before .before .before .pre .1),
-  c .before .before .before .before .before .before .before .before .before .before .clear .ensures ∙ ap zeros (c .before .before .before .before .before .before .before .before .before .before .before .before .before .before .before .before .before .before .before .before .solve .kept .1 .1 .1 .1 .1 .1 .1 .1 .1 .0 ∙ c .before .before .before .before .before .before .before .before .before .before .before .before .before .before .before .before .before .before .before .before .before .before .before .before .before .before .before .before .before .before .before .before .before .pre .0 .room),
-)
+returns c =
+    let at-clear = c .before .before .before .before .before .before .before .before .before .before in
+    let at-solve = at-clear .before .before .before .before .before .before .before .before .before .before in
+    let entry = at-solve .before .before .before .before .before .before .before .before .before .before .before .before .before in
+    let e = run-stopped _ (entry .args .shape .p) (entry .args .shape .n) _ _ _ _ _ (at-solve .solve .ensures) _
+    (c .before .before .done .given .1) _ (c .report .ensures) in (
+      e .0,
+      e .1,
+      e .2,
+      c .before .before .before .before .before .before .clear-indices .ensures ∙ ap (tab {A = ℕ} (λ j. 0))
+          (at-solve .solve .kept .1 .1 .1 .1 .1 .1 .1 .1 .0 ∙ entry .pre .1),
+      at-clear .clear .ensures ∙ ap zeros (at-solve .solve .kept .1 .1 .1 .1 .1 .1 .1 .1 .1 .0 ∙ entry .pre .0 .room),
+    )
 
 same-length-5 : tie.Need-same-length-5
 same-length-5 c = search needs
@@ -69,13 +75,23 @@ same-length-8 : tie.Need-same-length-8
 same-length-8 c = search needs
 
 returns-2 : tie.Need-returns-2
-returns-2 c = let e = run-going _ (c .before .before .before .before .before .before .before .before .before .before .before .before .before .before .before .before .before .before .before .before .before .before .before .before .before .before .before .before .before .before .before .before .before .before .before .before .before .before .args .shape .p) (c .before .before .before .before .before .before .before .before .before .before .before .before .before .before .before .before .before .before .before .before .before .before .before .before .before .before .before .before .before .before .before .before .before .before .before .before .before .before .args .shape .n) _ _ _ _ _ (c .before .before .before .before .before .before .before .before .before .before .before .before .before .before .before .before .before .before .before .before .before .before .before .before .before .solve .ensures) _ _ _ (c .before .before .before .before .give-up .ensures .0) (c .before .before .before .before .give-up .ensures .1) (c .before .before .before .before .give-up .ensures .2) (c .before .before .before .before .before .before .before .before .before .before .before .before .before .before .before .before .before .before .before .before .before .before .before .before .before .solve .kept .1 .1 .1 .1 .1 .1 .0 ∙ c .before .before .before .before .before .before .before .before .before .before .before .before .before .before .before .before .before .before .before .before .before .before .before .before .before .before .before .before .before .before .before .before .before .before .before .before .before .before .pre .0 .weights) (c .before .before .before .before .before .before .before .before .before .before .before .before .before .before .before .before .before .before .before .before .before .before .before .before .before .solve .kept .1 .1 .1 .1 .1 .1 .1 .0 ∙ c .before .before .before .before .before .before .before .before .before .before .before .before .before .before .before .before .before .before .before .before .before .before .before .before .before .before .before .before .before .before .before .before .before .before .before .before .before .before .pre .0 .fits) _ (c .before .before .before .before .before .before .before .enum-told .given .1) in (
-  e .0,
-  e .1,
-  e .2,
-  c .before .before .before .before .before .before .before .before .before .before .before .clear-indices .ensures ∙ ap (tab {A = ℕ} (λ j. 0)) (c .before .before .before .before .before .before .before .before .before .before .before .before .before .before .before .before .before .before .before .before .before .before .before .before .before .solve .kept .1 .1 .1 .1 .1 .1 .1 .1 .0 ∙ c .before .before .before .before .before .before .before .before .before .before .before .before .before .before .before .before .before .before .before .before .before .before .before .before .before .before .before .before .before .before .before .before .before .before .before .before .before .before .pre .1),
-  c .before .before .before .before .before .before .before .before .before .before .before .before .before .before .before .clear .ensures ∙ ap zeros (c .before .before .before .before .before .before .before .before .before .before .before .before .before .before .before .before .before .before .before .before .before .before .before .before .before .solve .kept .1 .1 .1 .1 .1 .1 .1 .1 .1 .0 ∙ c .before .before .before .before .before .before .before .before .before .before .before .before .before .before .before .before .before .before .before .before .before .before .before .before .before .before .before .before .before .before .before .before .before .before .before .before .before .before .pre .0 .room),
-)
+returns-2 c =
+    let at-give-up = c .before .before .before .before in
+    let at-clear-indices = at-give-up .before .before .before .before .before .before .before in
+    let at-clear = at-clear-indices .before .before .before .before in
+    let at-solve = at-clear .before .before .before .before .before .before .before .before .before .before in
+    let entry = at-solve .before .before .before .before .before .before .before .before .before .before .before .before .before in
+    let e = run-going _ (entry .args .shape .p) (entry .args .shape .n) _ _ _ _ _ (at-solve .solve .ensures) _ _ _
+    (at-give-up .give-up .ensures .0) (at-give-up .give-up .ensures .1) (at-give-up .give-up .ensures .2)
+    (at-solve .solve .kept .1 .1 .1 .1 .1 .1 .0 ∙ entry .pre .0 .weights)
+    (at-solve .solve .kept .1 .1 .1 .1 .1 .1 .1 .0 ∙ entry .pre .0 .fits) _
+    (c .before .before .before .before .before .before .before .enum-told .given .1) in (
+      e .0,
+      e .1,
+      e .2,
+      at-clear-indices .clear-indices .ensures ∙ ap (tab {A = ℕ} (λ j. 0)) (at-solve .solve .kept .1 .1 .1 .1 .1 .1 .1 .1 .0 ∙ entry .pre .1),
+      at-clear .clear .ensures ∙ ap zeros (at-solve .solve .kept .1 .1 .1 .1 .1 .1 .1 .1 .1 .0 ∙ entry .pre .0 .room),
+    )
 
 same-length-9 : tie.Need-same-length-9
 same-length-9 c = search needs
@@ -90,13 +106,23 @@ same-length-12 : tie.Need-same-length-12
 same-length-12 c = search needs
 
 returns-3 : tie.Need-returns-3
-returns-3 c = let e = run-bad _ (c .before .before .before .before .before .before .before .before .before .before .before .before .before .before .before .before .before .before .before .before .before .before .before .before .before .before .before .before .before .before .before .before .before .before .before .before .before .before .args .shape .p) (c .before .before .before .before .before .before .before .before .before .before .before .before .before .before .before .before .before .before .before .before .before .before .before .before .before .before .before .before .before .before .before .before .before .before .before .before .before .before .args .shape .n) _ _ _ _ _ (c .before .before .before .before .before .before .before .before .before .before .before .before .before .before .before .before .before .before .before .before .before .before .before .before .before .solve .ensures) _ _ _ (c .before .before .before .before .give-up2 .ensures .0) (c .before .before .before .before .give-up2 .ensures .1) (c .before .before .before .before .give-up2 .ensures .2) (c .before .before .before .before .before .before .before .before .before .before .before .before .before .before .before .before .before .before .before .before .before .before .before .before .before .solve .kept .1 .1 .1 .1 .1 .1 .0 ∙ c .before .before .before .before .before .before .before .before .before .before .before .before .before .before .before .before .before .before .before .before .before .before .before .before .before .before .before .before .before .before .before .before .before .before .before .before .before .before .pre .0 .weights) (c .before .before .before .before .before .before .before .before .before .before .before .before .before .before .before .before .before .before .before .before .before .before .before .before .before .solve .kept .1 .1 .1 .1 .1 .1 .1 .0 ∙ c .before .before .before .before .before .before .before .before .before .before .before .before .before .before .before .before .before .before .before .before .before .before .before .before .before .before .before .before .before .before .before .before .before .before .before .before .before .before .pre .0 .fits) (c .before .before .before .before .before .before .before .enum-told2 .given .1) in (
-  e .0,
-  e .1,
-  e .2,
-  c .before .before .before .before .before .before .before .before .before .before .before .clear-indices .ensures ∙ ap (tab {A = ℕ} (λ j. 0)) (c .before .before .before .before .before .before .before .before .before .before .before .before .before .before .before .before .before .before .before .before .before .before .before .before .before .solve .kept .1 .1 .1 .1 .1 .1 .1 .1 .0 ∙ c .before .before .before .before .before .before .before .before .before .before .before .before .before .before .before .before .before .before .before .before .before .before .before .before .before .before .before .before .before .before .before .before .before .before .before .before .before .before .pre .1),
-  c .before .before .before .before .before .before .before .before .before .before .before .before .before .before .before .clear .ensures ∙ ap zeros (c .before .before .before .before .before .before .before .before .before .before .before .before .before .before .before .before .before .before .before .before .before .before .before .before .before .solve .kept .1 .1 .1 .1 .1 .1 .1 .1 .1 .0 ∙ c .before .before .before .before .before .before .before .before .before .before .before .before .before .before .before .before .before .before .before .before .before .before .before .before .before .before .before .before .before .before .before .before .before .before .before .before .before .before .pre .0 .room),
-)
+returns-3 c =
+    let at-give-up2 = c .before .before .before .before in
+    let at-clear-indices = at-give-up2 .before .before .before .before .before .before .before in
+    let at-clear = at-clear-indices .before .before .before .before in
+    let at-solve = at-clear .before .before .before .before .before .before .before .before .before .before in
+    let entry = at-solve .before .before .before .before .before .before .before .before .before .before .before .before .before in
+    let e = run-bad _ (entry .args .shape .p) (entry .args .shape .n) _ _ _ _ _ (at-solve .solve .ensures) _ _ _
+    (at-give-up2 .give-up2 .ensures .0) (at-give-up2 .give-up2 .ensures .1) (at-give-up2 .give-up2 .ensures .2)
+    (at-solve .solve .kept .1 .1 .1 .1 .1 .1 .0 ∙ entry .pre .0 .weights)
+    (at-solve .solve .kept .1 .1 .1 .1 .1 .1 .1 .0 ∙ entry .pre .0 .fits)
+    (c .before .before .before .before .before .before .before .enum-told2 .given .1) in (
+      e .0,
+      e .1,
+      e .2,
+      at-clear-indices .clear-indices .ensures ∙ ap (tab {A = ℕ} (λ j. 0)) (at-solve .solve .kept .1 .1 .1 .1 .1 .1 .1 .1 .0 ∙ entry .pre .1),
+      at-clear .clear .ensures ∙ ap zeros (at-solve .solve .kept .1 .1 .1 .1 .1 .1 .1 .1 .1 .0 ∙ entry .pre .0 .room),
+    )
 
 pub fit-inside-spec : {M : Type 1} → statement M
 fit-inside-spec =

@@ -14,10 +14,16 @@ add-result : tie.Need-add-result
 add-result c = let h = shallow _ (c .before .before .pre .2) (c .before .if1 .taken) in omega arith
 
 mul-result-2 : tie.Need-mul-result-2
-mul-result-2 c = let h = room-small _ _ _ (shallow _ (c .before .before .before .pre .2) (c .before .before .if1 .taken)) (c .before .before .before .pre .1) (c .before .before .before .pre .0) in omega arith
+mul-result-2 c =
+    let h = room-small _ _ _ (shallow _ (c .before .before .before .pre .2) (c .before .before .if1 .taken))
+    (c .before .before .before .pre .1) (c .before .before .before .pre .0) in
+    omega arith
 
 add-result-2 : tie.Need-add-result-2
-add-result-2 c = let h = room-small _ _ _ (shallow _ (c .before .before .before .before .pre .2) (c .before .before .before .if1 .taken)) (c .before .before .before .before .pre .1) (c .before .before .before .before .pre .0) in omega arith
+add-result-2 c =
+    let h = room-small _ _ _ (shallow _ (c .before .before .before .before .pre .2) (c .before .before .before .if1 .taken))
+    (c .before .before .before .before .pre .1) (c .before .before .before .before .pre .0) in
+    omega arith
 
 returns : tie.Need-returns
 unfolding scratchRoom

@@ -34,10 +34,17 @@ enum-known-n : tie.Need-enum-known-n
 enum-known-n c = search needs
 
 array-share-prefix-out : tie.Need-array-share-prefix-out
-array-share-prefix-out c = le-trans (rw (c .before .n .given .1) at (c .before .before .before .before .answer .ensures .2)) (le-of-eq (sym (c .before .before .before .before .answer .kept .1 .0)))
+array-share-prefix-out c =
+    let at-answer = c .before .before .before .before in
+    le-trans (rw (c .before .n .given .1) at (at-answer .answer .ensures .2)) (le-of-eq (sym (at-answer .answer .kept .1 .0)))
 
 slice-aggregate-write-all : tie.Need-slice-aggregate-write-all
-slice-aggregate-write-all c = sym (length-take-le _ _ (le-trans (rw (c .before .before .n .given .1) at (c .before .before .before .before .before .answer .ensures .2)) (le-of-eq (sym (c .before .before .before .before .before .answer .kept .1 .0)))))
+slice-aggregate-write-all c =
+    let at-answer = c .before .before .before .before .before in
+    sym
+    (length-take-le _ _
+    (le-trans (rw (c .before .before .n .given .1) at (at-answer .answer .ensures .2))
+    (le-of-eq (sym (at-answer .answer .kept .1 .0)))))
 
 write-all-requires : tie.Need-write-all-requires
 write-all-requires c κs = search needs

@@ -98,8 +98,12 @@ returns c = (λ k. none _ (sym (ne-self _) ∙ c .if1 .taken) ∙ sym (none _ (s
 
 returns-2 : tie.Need-returns-2
 returns-2 c =
-    let g = c .before .before .good in
-    (λ k. numbers _ _ (holds (g .0 .1)) (holds (g .1 .0 .1)) (c .if2 .taken) (holds k), λ e. rw (← e) (not-false _ (unfold ne in c .before .if1 .left)))
+    let g = c .before .before .good in (
+      λ k.
+          numbers _ _ (holds (g .0 .1)) (holds (g .1 .0 .1)) (c .if2 .taken) (holds k),
+      λ e. rw (← e)
+          (not-false _ (unfold ne in c .before .if1 .left)),
+    )
 
 returns-3 : tie.Need-returns-3
 returns-3 c = (λ k. absurd (false≢true k), λ e. sym (c .before .if2 .left) ∙ ap (λ (x : Float). ne x #0) e ∙ c .if3 .taken)

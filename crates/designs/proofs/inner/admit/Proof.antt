@@ -14,21 +14,34 @@ check-contents-requires c κs = sym (c .before .before .before .sizes-agree .ens
 
 returns : tie.Need-returns
 unfolding admitted _and_
-returns c = c .check-contents .ensures ∙ rw (← c .before .before .before .before .sizes-agree .ensures, c .before .before .before .if1 .taken, c .before .before .if2 .taken, c .before .if3 .taken)
+returns c =
+    c .check-contents .ensures ∙ rw (
+      ← c .before .before .before .before .sizes-agree .ensures,
+      c .before .before .before .if1 .taken,
+      c .before .before .if2 .taken,
+      c .before .if3 .taken,
+    )
 
 refused-requires : tie.Need-refused-requires
 refused-requires c κs = search needs
 
 returns-2 : tie.Need-returns-2
 unfolding admitted _and_
-returns-2 c = c .refused .ensures ∙ rw (← c .before .before .before .before .sizes-agree .ensures, c .before .before .before .if1 .taken, c .before .before .if2 .taken, c .before .if3 .left)
+returns-2 c =
+    c .refused .ensures ∙ rw (
+      ← c .before .before .before .before .sizes-agree .ensures,
+      c .before .before .before .if1 .taken,
+      c .before .before .if2 .taken,
+      c .before .if3 .left,
+    )
 
 refused-requires-2 : tie.Need-refused-requires-2
 refused-requires-2 c κs = search needs
 
 returns-3 : tie.Need-returns-3
 unfolding admitted _and_
-returns-3 c = c .refused2 .ensures ∙ rw (← c .before .before .before .sizes-agree .ensures, c .before .before .if1 .taken, c .before .if2 .left)
+returns-3 c =
+    c .refused2 .ensures ∙ rw (← c .before .before .before .sizes-agree .ensures, c .before .before .if1 .taken, c .before .if2 .left)
 
 refused-requires-3 : tie.Need-refused-requires-3
 refused-requires-3 c κs = search needs

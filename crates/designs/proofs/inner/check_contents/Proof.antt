@@ -17,7 +17,10 @@ enum-told-2 : tie.Need-enum-told-2
 enum-told-2 c = search needs
 
 check-csc-requires : tie.Need-check-csc-requires
-check-csc-requires c κs = let z = sized _ _ _ _ (c .before .before .before .before .before .before .pre) in let e : lengths _ _ _ _ _ _ ≡ true = rw (c .enum-told2 .given .1) at (z .agree) in (z .few, csc-starts _ _ _ _ _ e, csc-rows _ _ _ _ _ e)
+check-csc-requires c κs =
+    let z = sized _ _ _ _ (c .before .before .before .before .before .before .pre) in
+    let e : lengths _ _ _ _ _ _ ≡ true = rw (c .enum-told2 .given .1) at (z .agree) in
+    (z .few, csc-starts _ _ _ _ _ e, csc-rows _ _ _ _ _ e)
 
 returns : tie.Need-returns
 unfolding contents

@@ -23,7 +23,11 @@ enum-told : tie.Need-enum-told
 enum-told c = search needs
 
 first-bad-row-requires : tie.Need-first-bad-row-requires
-first-bad-row-requires c κs = (c .before .before .before .before .before .before .before .pre .1, rising-rows _ _ _ _ _ (c .before .before .before .before .before .before .before .pre .1) (c .before .before .before .before .before .before .before .pre .2) (c .before .before .first-bad-start .ensures) (c .enum-told .given .1))
+first-bad-row-requires c κs =
+    let entry = c .before .before .before .before .before .before .before in (
+      entry .pre .1,
+      rising-rows _ _ _ _ _ (entry .pre .1) (entry .pre .2) (c .before .before .first-bad-start .ensures) (c .enum-told .given .1),
+    )
 
 enum-known-k-2 : tie.Need-enum-known-k-2
 enum-known-k-2 c = search needs
@@ -33,7 +37,13 @@ refused-requires-2 c κs = search needs
 
 returns-2 : tie.Need-returns-2
 unfolding cscFault
-returns-2 c = c .refused2 .ensures ∙ rw (← c .before .before .before .before .before .before .before .first-bad-start .ensures, c .before .before .before .before .before .enum-told .given .1, ← c .before .before .before .before .first-bad-row .ensures, c .before .before .k2 .given .1)
+returns-2 c =
+    c .refused2 .ensures ∙ rw (
+      ← c .before .before .before .before .before .before .before .first-bad-start .ensures,
+      c .before .before .before .before .before .enum-told .given .1,
+      ← c .before .before .before .before .first-bad-row .ensures,
+      c .before .before .k2 .given .1,
+    )
 
 enum-told-2 : tie.Need-enum-told-2
 enum-told-2 c = search needs
@@ -43,7 +53,13 @@ check-numbers-requires c κs = search needs
 
 returns-3 : tie.Need-returns-3
 unfolding cscFault
-returns-3 c = c .check-numbers .ensures ∙ rw (← c .before .before .before .before .before .before .first-bad-start .ensures, c .before .before .before .before .enum-told .given .1, ← c .before .before .before .first-bad-row .ensures, c .before .enum-told2 .given .1)
+returns-3 c =
+    c .check-numbers .ensures ∙ rw (
+      ← c .before .before .before .before .before .before .first-bad-start .ensures,
+      c .before .before .before .before .enum-told .given .1,
+      ← c .before .before .before .first-bad-row .ensures,
+      c .before .enum-told2 .given .1,
+    )
 
 pub check-csc-spec : {M : Type 1} → statement M
 check-csc-spec =

@@ -32,14 +32,26 @@ refused-requires-2 c κs = search needs
 
 returns-2 : tie.Need-returns-2
 unfolding numbers
-returns-2 c = c .refused2 .ensures ∙ rw (← c .before .before .before .before .before .before .before .first-not-finite .ensures, c .before .before .before .before .before .enum-told .given .1, ← c .before .before .before .before .first-not-finite2 .ensures, c .before .before .k2 .given .1)
+returns-2 c =
+    c .refused2 .ensures ∙ rw (
+      ← c .before .before .before .before .before .before .before .first-not-finite .ensures,
+      c .before .before .before .before .before .enum-told .given .1,
+      ← c .before .before .before .before .first-not-finite2 .ensures,
+      c .before .before .k2 .given .1,
+    )
 
 enum-told-2 : tie.Need-enum-told-2
 enum-told-2 c = search needs
 
 returns-3 : tie.Need-returns-3
 unfolding numbers
-returns-3 c = rw (← c .before .before .before .before .before .first-not-finite .ensures, c .before .before .before .enum-told .given .1, ← c .before .before .first-not-finite2 .ensures, c .enum-told2 .given .1)
+returns-3 c =
+    rw (
+      ← c .before .before .before .before .before .first-not-finite .ensures,
+      c .before .before .before .enum-told .given .1,
+      ← c .before .before .first-not-finite2 .ensures,
+      c .enum-told2 .given .1,
+    )
 
 pub check-numbers-spec : {M : Type 1} → statement M
 check-numbers-spec =

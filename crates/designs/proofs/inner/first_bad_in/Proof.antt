@@ -53,7 +53,11 @@ add-t16 c = search needs
 
 returns : tie.Need-returns Inv-loop μ-loop
 unfolding badColumn
-returns c = mark-here (badRow (c .before .before .before .before .before .before .before .before .args .n) (now (c .before .before .before .before .before .before .before .before .args .rows)) (getD (now (c .before .before .before .before .before .before .before .before .args .starts)) (c .before .before .before .before .before .before .before .before .args .j) 0)) (λ i. (getD (now (c .before .before .before .before .before .before .before .before .args .starts)) (c .before .before .before .before .before .before .before .before .args .j) 0) + i) _ _ (c .before .before .before .loop .inv .1) (c .before .is-bad-row .ensures) _ (c .if1 .taken) (c .before .before .loop-test .taken)
+returns c =
+    let entry = c .before .before .before .before .before .before .before .before in
+    mark-here (badRow (entry .args .n) (now (entry .args .rows)) (getD (now (entry .args .starts)) (entry .args .j) 0))
+    (λ i. (getD (now (entry .args .starts)) (entry .args .j) 0) + i) _ _ (c .before .before .before .loop .inv .1)
+    (c .before .is-bad-row .ensures) _ (c .if1 .taken) (c .before .before .loop-test .taken)
 
 add-k : tie.Need-add-k Inv-loop μ-loop
 add-k c = search needs
@@ -62,7 +66,19 @@ loop-less : tie.Need-loop-less Inv-loop μ-loop
 loop-less c = search needs
 
 loop-again : tie.Need-loop-again Inv-loop μ-loop
-loop-again c = (search needs, mark-on (badRow (c .before .before .before .before .before .before .before .before .args .n) (now (c .before .before .before .before .before .before .before .before .args .rows)) (getD (now (c .before .before .before .before .before .before .before .before .args .starts)) (c .before .before .before .before .before .before .before .before .args .j) 0)) (λ i. (getD (now (c .before .before .before .before .before .before .before .before .args .starts)) (c .before .before .before .before .before .before .before .before .args .j) 0) + i) _ _ (c .before .before .before .loop .inv .1) (c .before .is-bad-row .ensures) (c .if1 .left))
+loop-again c = (
+  search needs,
+  mark-on
+      (badRow (c .before .before .before .before .before .before .before .before .args .n)
+      (now (c .before .before .before .before .before .before .before .before .args .rows))
+      (getD (now (c .before .before .before .before .before .before .before .before .args .starts))
+      (c .before .before .before .before .before .before .before .before .args .j) 0))
+      (λ i.
+      (getD (now (c .before .before .before .before .before .before .before .before .args .starts))
+      (c .before .before .before .before .before .before .before .before .args .j) 0)
+      + i)
+      _ _ (c .before .before .before .loop .inv .1) (c .before .is-bad-row .ensures) (c .if1 .left),
+)
 
 returns-2 : tie.Need-returns-2 Inv-loop μ-loop
 unfolding badColumn

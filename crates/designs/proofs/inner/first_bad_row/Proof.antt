@@ -20,14 +20,20 @@ loop-holds : tie.Need-loop-holds Inv-loop μ-loop
 loop-holds c = (search needs, steps-none _ _)
 
 first-bad-in-requires : tie.Need-first-bad-in-requires Inv-loop μ-loop
-first-bad-in-requires c κs = (search needs, c .before .before .before .before .pre .1 .up _ (c .loop-test .taken), c .before .before .before .before .pre .1 .within _ (search needs))
+first-bad-in-requires c κs = (
+  search needs,
+  c .before .before .before .before .pre .1 .up _ (c .loop-test .taken),
+  c .before .before .before .before .pre .1 .within _ (search needs),
+)
 
 enum-known-k : tie.Need-enum-known-k Inv-loop μ-loop
 enum-known-k c = search needs
 
 returns : tie.Need-returns Inv-loop μ-loop
 unfolding badRows
-returns c = first-here _ _ _ _ _ (c .before .before .before .before .before .loop .inv .1) (c .before .before .before .first-bad-in .ensures) (c .before .k .given .1) (c .before .before .before .before .loop-test .taken)
+returns c =
+    first-here _ _ _ _ _ (c .before .before .before .before .before .loop .inv .1) (c .before .before .before .first-bad-in .ensures)
+    (c .before .k .given .1) (c .before .before .before .before .loop-test .taken)
 
 enum-told : tie.Need-enum-told Inv-loop μ-loop
 enum-told c = search needs
@@ -39,7 +45,10 @@ loop-less : tie.Need-loop-less Inv-loop μ-loop
 loop-less c = search needs
 
 loop-again : tie.Need-loop-again Inv-loop μ-loop
-loop-again c = (search needs, first-on _ _ _ (c .before .before .before .before .loop .inv .1) (c .before .before .first-bad-in .ensures) (c .enum-told .given .1))
+loop-again c = (
+  search needs,
+  first-on _ _ _ (c .before .before .before .before .loop .inv .1) (c .before .before .first-bad-in .ensures) (c .enum-told .given .1),
+)
 
 returns-2 : tie.Need-returns-2 Inv-loop μ-loop
 unfolding badRows

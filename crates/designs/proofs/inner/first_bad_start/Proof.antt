@@ -26,7 +26,10 @@ is-bad-start-requires c κs = search needs
 
 returns : tie.Need-returns Inv-loop μ-loop
 unfolding badStarts
-returns c = mark-here (badStart (now (c .before .before .before .before .before .args .starts)) (c .before .before .before .before .before .args .m)) (λ i. i) _ _ (c .before .before .before .loop .inv .1) (c .before .is-bad-start .ensures) _ (c .if1 .taken) (c .before .before .loop-test .taken)
+returns c =
+    let entry = c .before .before .before .before .before in
+    mark-here (badStart (now (entry .args .starts)) (entry .args .m)) (λ i. i) _ _ (c .before .before .before .loop .inv .1)
+    (c .before .is-bad-start .ensures) _ (c .if1 .taken) (c .before .before .loop-test .taken)
 
 add-i : tie.Need-add-i Inv-loop μ-loop
 add-i c = search needs
@@ -35,7 +38,12 @@ loop-less : tie.Need-loop-less Inv-loop μ-loop
 loop-less c = search needs
 
 loop-again : tie.Need-loop-again Inv-loop μ-loop
-loop-again c = (search needs, mark-on (badStart (now (c .before .before .before .before .before .args .starts)) (c .before .before .before .before .before .args .m)) (λ i. i) _ _ (c .before .before .before .loop .inv .1) (c .before .is-bad-start .ensures) (c .if1 .left))
+loop-again c = (
+  search needs,
+  mark-on
+      (badStart (now (c .before .before .before .before .before .args .starts)) (c .before .before .before .before .before .args .m))
+      (λ i. i) _ _ (c .before .before .before .loop .inv .1) (c .before .is-bad-start .ensures) (c .if1 .left),
+)
 
 returns-2 : tie.Need-returns-2 Inv-loop μ-loop
 unfolding badStarts

@@ -39,14 +39,23 @@ loop-less : tie.Need-loop-less Inv-loop μ-loop
 loop-less c = search needs
 
 loop-again : tie.Need-loop-again Inv-loop μ-loop
-loop-again c = (search needs, mark-on (λ i. not (finite (at (now (c .before .before .before .before .before .before .args .xs)) i))) (λ i. c .before .before .before .before .before .before .args .from + i) _ _ (c .before .before .before .before .loop .inv .1) (ap not (c .before .is-finite .ensures)) (ap not (c .if1 .taken)))
+loop-again c = (
+  search needs,
+  mark-on (λ i. not (finite (at (now (c .before .before .before .before .before .before .args .xs)) i)))
+      (λ i. c .before .before .before .before .before .before .args .from + i) _ _ (c .before .before .before .before .loop .inv .1)
+      (ap not (c .before .is-finite .ensures)) (ap not (c .if1 .taken)),
+)
 
 add-t9 : tie.Need-add-t9 Inv-loop μ-loop
 add-t9 c = search needs
 
 returns : tie.Need-returns Inv-loop μ-loop
 unfolding notFinite
-returns c = mark-here (λ i. not (finite (at (now (c .before .before .before .before .before .before .args .xs)) i))) (λ i. c .before .before .before .before .before .before .args .from + i) _ _ (c .before .before .before .before .loop .inv .1) (ap not (c .before .is-finite .ensures)) _ (ap not (c .if1 .left)) (c .before .before .before .loop-test .taken)
+returns c =
+    let entry = c .before .before .before .before .before .before in
+    mark-here (λ i. not (finite (at (now (entry .args .xs)) i))) (λ i. entry .args .from + i) _ _
+    (c .before .before .before .before .loop .inv .1) (ap not (c .before .is-finite .ensures)) _ (ap not (c .if1 .left))
+    (c .before .before .before .loop-test .taken)
 
 returns-2 : tie.Need-returns-2 Inv-loop μ-loop
 unfolding notFinite

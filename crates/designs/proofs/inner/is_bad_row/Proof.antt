@@ -34,7 +34,8 @@ shared-slice-read-result : tie.Need-shared-slice-read-result
 shared-slice-read-result c = search needs
 
 cast-result : tie.Need-cast-result
-cast-result c = omega (arith, c .shared-slice-known2 .given (c .before .before .before .before .args .a + c .before .before .before .before .args .k - 1))
+cast-result c =
+    omega (arith, c .shared-slice-known2 .given (c .before .before .before .before .args .a + c .before .before .before .before .args .k - 1))
 
 returns-2 : tie.Need-returns-2
 unfolding badRow _and_ _or_

@@ -32,11 +32,23 @@ add-if3 c = search needs
 
 returns-3 : tie.Need-returns-3
 unfolding badStart _and_ _or_
-returns-3 c = rw (← c .before .before .before .before .is-fall .ensures, c .before .before .before .if1 .left, le-ltb _ _ (c .before .if2 .left), eq-eqb _ _ (c .if3 .taken))
+returns-3 c =
+    rw (
+      ← c .before .before .before .before .is-fall .ensures,
+      c .before .before .before .if1 .left,
+      le-ltb _ _ (c .before .if2 .left),
+      eq-eqb _ _ (c .if3 .taken),
+    )
 
 returns-4 : tie.Need-returns-4
 unfolding badStart _and_ _or_
-returns-4 c = rw (← c .before .before .before .before .is-fall .ensures, c .before .before .before .if1 .left, le-ltb _ _ (c .before .if2 .left), ne-eqb _ _ (c .if3 .left))
+returns-4 c =
+    rw (
+      ← c .before .before .before .before .is-fall .ensures,
+      c .before .before .before .if1 .left,
+      le-ltb _ _ (c .before .if2 .left),
+      ne-eqb _ _ (c .if3 .left),
+    )
 
 pub is-bad-start-spec : {M : Type 1} → statement M
 is-bad-start-spec =

@@ -9,7 +9,9 @@ enum-told : tie.Need-enum-told
 enum-told c = search needs
 
 mul-both : tie.Need-mul-both
-mul-both c = record { fits = product-small _ _ (c .before .before .before .before .before .before .pre .0) (c .before .before .before .before .before .before .pre .1) }
+mul-both c =
+    let entry = c .before .before .before .before .before .before in
+    record { fits = product-small _ _ (entry .pre .0) (entry .pre .1) }
 
 both-requires : tie.Need-both-requires
 both-requires c κs = search needs

@@ -46,13 +46,21 @@ loop-less : tie.Need-loop-less Inv-loop μ-loop
 loop-less c = search needs
 
 loop-again : tie.Need-loop-again Inv-loop μ-loop
-loop-again c = (search needs, search needs, rw (c .before .before .loop .inv .2) (put-more _ (now (c .before .before .before .before .before .args .buf)) (c .before .before .before .before .before .args .to) (c .before .before .loop .i) nan (search needs) _ (c .f64-at .ensures)))
+loop-again c = (
+  search needs,
+  search needs,
+  rw (c .before .before .loop .inv .2)
+      (put-more _ (now (c .before .before .before .before .before .args .buf)) (c .before .before .before .before .before .args .to)
+      (c .before .before .loop .i) nan (search needs) _ (c .f64-at .ensures)),
+)
 
 same-length : tie.Need-same-length Inv-loop μ-loop
 same-length c = search needs
 
 returns : tie.Need-returns Inv-loop μ-loop
-returns c = put-all _ (now (c .before .before .before .before .args .buf)) _ (c .before .before .before .before .args .to) _ _ (c .before .loop .inv .2) (c .before .loop .inv .0) (c .loop-test .left)
+returns c =
+    let entry = c .before .before .before .before in
+    put-all _ (now (entry .args .buf)) _ (entry .args .to) _ _ (c .before .loop .inv .2) (c .before .loop .inv .0) (c .loop-test .left)
 
 pub put-doubles-spec : {M : Type 1} → statement M
 put-doubles-spec =

@@ -26,11 +26,23 @@ mul-result : tie.Need-mul-result
 mul-result c = omega (arith, c .shared-slice-known2 .given (c .before .before .args .at + 1))
 
 add-result-2 : tie.Need-add-result-2
-add-result-2 c = omega (arith, c .before .shared-slice-known .given (c .before .before .args .at), c .shared-slice-known2 .given (c .before .before .args .at + 1))
+add-result-2 c =
+    omega (
+      arith,
+      c .before .shared-slice-known .given (c .before .before .args .at),
+      c .shared-slice-known2 .given (c .before .before .args .at + 1),
+    )
 
 returns : tie.Need-returns
 unfolding u16
-returns c = (refl, omega (arith, c .before .shared-slice-known .given (c .before .before .args .at), c .shared-slice-known2 .given (c .before .before .args .at + 1)))
+returns c = (
+  refl,
+  omega (
+    arith,
+    c .before .shared-slice-known .given (c .before .before .args .at),
+    c .shared-slice-known2 .given (c .before .before .args .at + 1),
+  ),
+)
 
 pub u16-at-spec : {M : Type 1} → statement M
 u16-at-spec =

@@ -22,7 +22,9 @@ add-result c = search needs
 
 returns : tie.Need-returns
 unfolding u32
-returns c = let a = c .before .u16-at .ensures .1 in let b = c .u16-at2 .ensures .1 in (rw (c .before .u16-at .ensures .0, c .u16-at2 .ensures .0), omega arith)
+returns c =
+    let a = c .before .u16-at .ensures .1 in
+    let b = c .u16-at2 .ensures .1 in (rw (c .before .u16-at .ensures .0, c .u16-at2 .ensures .0), omega arith)
 
 pub u32-at-spec : {M : Type 1} → statement M
 u32-at-spec =

@@ -11,18 +11,26 @@ put-text-requires c κs = room-first _ _ (c .before .before .before .pre)
 
 put-bits-requires : tie.Need-put-bits-requires
 unfolding bitsLine
-put-bits-requires c κs = room-first _ _ (room-next _ _ (c .before .before .before .before .before .before .before .pre) (c .before .before .before .put-text .ensures))
+put-bits-requires c κs =
+    room-first _ _
+    (room-next _ _ (c .before .before .before .before .before .before .before .pre) (c .before .before .before .put-text .ensures))
 
 end-line-requires : tie.Need-end-line-requires
 unfolding bitsLine
-end-line-requires c κs = room-next _ _ (room-next _ _ (c .before .before .before .before .before .before .before .before .before .before .before .pre) (c .before .before .before .before .before .before .before .put-text .ensures)) (c .before .before .before .put-bits .ensures)
+end-line-requires c κs =
+    let entry = c .before .before .before .before .before .before .before .before .before .before .before in
+    room-next _ _ (room-next _ _ (entry .pre) (c .before .before .before .before .before .before .before .put-text .ensures))
+    (c .before .before .before .put-bits .ensures)
 
 same-length : tie.Need-same-length
 same-length c = search needs
 
 returns : tie.Need-returns
 unfolding bitsLine
-returns c = wrote-both (c .before .before .before .before .before .before .before .before .before .before .put-text .ensures) (wrote-both (c .before .before .before .before .before .before .put-bits .ensures) (c .before .before .end-line .ensures))
+returns c =
+    let at-put-text = c .before .before .before .before .before .before .before .before .before .before in
+    wrote-both (at-put-text .put-text .ensures)
+    (wrote-both (c .before .before .before .before .before .before .put-bits .ensures) (c .before .before .end-line .ensures))
 
 pub put-bits-line-spec : {M : Type 1} → statement M
 put-bits-line-spec =

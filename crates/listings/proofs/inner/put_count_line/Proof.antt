@@ -11,7 +11,8 @@ put-labelled-requires c κs = room-first _ _ (c .before .before .before .pre)
 
 end-line-requires : tie.Need-end-line-requires
 unfolding countLine
-end-line-requires c κs = room-next _ _ (c .before .before .before .before .before .before .before .pre) (c .before .before .before .put-labelled .ensures)
+end-line-requires c κs =
+    room-next _ _ (c .before .before .before .before .before .before .before .pre) (c .before .before .before .put-labelled .ensures)
 
 same-length : tie.Need-same-length
 same-length c = search needs

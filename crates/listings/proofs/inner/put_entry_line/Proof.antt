@@ -14,14 +14,17 @@ slice-aggregate-put-bits-line c = search needs
 
 put-bits-line-requires : tie.Need-put-bits-line-requires
 unfolding entryLine codes
-put-bits-line-requires c κs = room-next _ _ (c .before .before .before .before .before .before .before .before .pre) (c .before .before .before .before .put-labelled .ensures)
+put-bits-line-requires c κs =
+    let entry = c .before .before .before .before .before .before .before .before in
+    room-next _ _ (entry .pre) (c .before .before .before .before .put-labelled .ensures)
 
 same-length : tie.Need-same-length
 same-length c = search needs
 
 returns : tie.Need-returns
 unfolding entryLine codes
-returns c = wrote-both (c .before .before .before .before .before .before .before .put-labelled .ensures) (c .before .before .put-bits-line .ensures)
+returns c =
+    wrote-both (c .before .before .before .before .before .before .before .put-labelled .ensures) (c .before .before .put-bits-line .ensures)
 
 pub put-entry-line-spec : {M : Type 1} → statement M
 put-entry-line-spec =

@@ -25,7 +25,9 @@ shared-slice-read-put-entry-line : tie.Need-shared-slice-read-put-entry-line Inv
 shared-slice-read-put-entry-line c = search needs
 
 put-entry-line-requires : tie.Need-put-entry-line-requires Inv-loop μ-loop
-put-entry-line-requires c κs = lines-room _ _ _ (c .before .before .before .before .before .before .before .pre) _ (c .before .before .before .loop .inv .2) (c .before .before .loop-test .taken)
+put-entry-line-requires c κs =
+    lines-room _ _ _ (c .before .before .before .before .before .before .before .pre) _ (c .before .before .before .loop .inv .2)
+    (c .before .before .loop-test .taken)
 
 add-i : tie.Need-add-i Inv-loop μ-loop
 add-i c = search needs
@@ -34,13 +36,19 @@ loop-less : tie.Need-loop-less Inv-loop μ-loop
 loop-less c = search needs
 
 loop-again : tie.Need-loop-again Inv-loop μ-loop
-loop-again c = (search needs, search needs, lines-turn _ _ _ (c .before .before .before .before .before .before .before .before .before .before .pre) _ (c .before .before .before .before .before .before .loop .inv .2) (c .before .before .put-entry-line .ensures))
+loop-again c = (
+  search needs,
+  search needs,
+  lines-turn _ _ _ (c .before .before .before .before .before .before .before .before .before .before .pre) _
+      (c .before .before .before .before .before .before .loop .inv .2) (c .before .before .put-entry-line .ensures),
+)
 
 same-length : tie.Need-same-length Inv-loop μ-loop
 same-length c = search needs
 
 returns : tie.Need-returns Inv-loop μ-loop
-returns c = lines-all _ _ _ (c .before .before .before .before .before .pre) _ (c .before .loop .inv .2) (c .before .loop .inv .0) (c .loop-test .left)
+returns c =
+    lines-all _ _ _ (c .before .before .before .before .before .pre) _ (c .before .loop .inv .2) (c .before .loop .inv .0) (c .loop-test .left)
 
 pub put-entry-lines-spec : {M : Type 1} → statement M
 put-entry-lines-spec =

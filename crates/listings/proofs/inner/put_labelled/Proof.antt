@@ -11,7 +11,8 @@ put-text-requires c κs = room-first _ _ (c .before .before .before .pre)
 
 put-decimal-requires : tie.Need-put-decimal-requires
 unfolding labelled
-put-decimal-requires c κs = room-next _ _ (c .before .before .before .before .before .before .before .pre) (c .before .before .before .put-text .ensures)
+put-decimal-requires c κs =
+    room-next _ _ (c .before .before .before .before .before .before .before .pre) (c .before .before .before .put-text .ensures)
 
 same-length : tie.Need-same-length
 same-length c = search needs

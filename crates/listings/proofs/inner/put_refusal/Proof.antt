@@ -20,14 +20,17 @@ slice-aggregate-put-count-line c = search needs
 
 put-count-line-requires : tie.Need-put-count-line-requires
 unfolding refusedLine codes
-put-count-line-requires c κs = room-next _ _ (c .before .before .before .before .before .before .before .before .before .pre) (c .before .before .before .before .put-labelled .ensures)
+put-count-line-requires c κs =
+    let entry = c .before .before .before .before .before .before .before .before .before in
+    room-next _ _ (entry .pre) (c .before .before .before .before .put-labelled .ensures)
 
 same-length : tie.Need-same-length
 same-length c = search needs
 
 returns : tie.Need-returns
 unfolding refusedLine codes
-returns c = wrote-both (c .before .before .before .before .before .before .before .put-labelled .ensures) (c .before .before .put-count-line .ensures)
+returns c =
+    wrote-both (c .before .before .before .before .before .before .before .put-labelled .ensures) (c .before .before .put-count-line .ensures)
 
 pub put-refusal-spec : {M : Type 1} → statement M
 put-refusal-spec =

@@ -36,7 +36,12 @@ loop-less : tie.Need-loop-less Inv-loop μ-loop
 loop-less c = search needs
 
 loop-again : tie.Need-loop-again Inv-loop μ-loop
-loop-again c = (search needs, c .before .before .loop .inv .1, search needs, text-more _ _ _ _ (now (c .before .before .before .args .text)) (c .before .before .loop .inv .3) (search needs))
+loop-again c = (
+  search needs,
+  c .before .before .loop .inv .1,
+  search needs,
+  text-more _ _ _ _ (now (c .before .before .before .args .text)) (c .before .before .loop .inv .3) (search needs),
+)
 
 add-result : tie.Need-add-result Inv-loop μ-loop
 add-result c = search needs

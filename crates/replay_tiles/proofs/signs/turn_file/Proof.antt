@@ -10,7 +10,11 @@ use Rattle.replay_tiles.proofs.signs.turn_file.Statement.{statement}
 use Rattle.replay_tiles.proofs.signs.turn_file.Tie as tie
 
 inside : (c : tie.After-known-told2) → Inside (c .before .problem .given .0 .0) (length (c .before .before .before .before .before .before .before .read .last .1 .0)) (length (c .before .before .before .before .before .before .before .read .last .1 .1 .0)) (length (c .before .before .before .before .before .before .before .read .last .1 .1 .1 .0)) (length (c .before .before .before .before .before .before .before .read .last .1 .1 .1 .1 .0))
-inside c = own-places _ (c .before .before .before .before .before .before .before .read .last .1 .0) (c .before .before .before .before .before .before .before .read .last .1 .1 .0) (c .before .before .before .before .before .before .before .read .last .1 .1 .1 .0) (c .before .before .before .before .before .before .before .read .last .1 .1 .1 .1 .0) #0 (c .before .before .before .before .before .before .before .read .kept .1 .0) (c .before .before .before .before .before .before .before .read .kept .1 .1 .0) (c .before .before .before .before .before .before .before .read .kept .1 .1 .1 .0) (c .before .before .before .before .before .before .before .read .kept .1 .1 .1 .1 .0) (rw (c .before .problem .given .1) at (c .before .before .before .before .before .before .before .read .ensures .2))
+inside c =
+    let at-read = c .before .before .before .before .before .before .before in
+    own-places _ (at-read .read .last .1 .0) (at-read .read .last .1 .1 .0) (at-read .read .last .1 .1 .1 .0)
+    (at-read .read .last .1 .1 .1 .1 .0) #0 (at-read .read .kept .1 .0) (at-read .read .kept .1 .1 .0) (at-read .read .kept .1 .1 .1 .0)
+    (at-read .read .kept .1 .1 .1 .1 .0) (rw (c .before .problem .given .1) at (at-read .read .ensures .2))
 
 slice-aggregate-read : tie.Need-slice-aggregate-read
 slice-aggregate-read c = search needs

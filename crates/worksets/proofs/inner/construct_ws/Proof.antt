@@ -15,7 +15,8 @@ clear-indices-requires c κs = search needs
 
 support-requires : tie.Need-support-requires
 support-requires c κs =
-    let entry = c .before .before .before .before .before .before .before .before in
+    let at-there = c .before .before .before .before .before .before .before .before in
+    let entry = at-there in
     (c .before .before .before .clear-indices .ensures ∙ ap (tab (λ k. 0)) (entry .pre .3), entry .pre .1)
 
 size-requires : tie.Need-size-requires

@@ -48,7 +48,8 @@ is-bad-violation-requires c κs = search needs
 
 returns : tie.Need-returns Inv-loop μ-loop
 returns c =
-    let entry = c .before .before .before .before .before .before .before .before in
+    let at-there = c .before .before .before .before .before .before .before .before in
+    let entry = at-there in
     mark-here (badViolation (now (entry .args .kkt)) (now (entry .args .w))) (λ i. i) _ _
     (c .before .before .before .before .before .loop .inv .2) (is-bad _ _ _ _ (c .before .is-bad-violation .ensures)) _ (c .if1 .taken)
     (c .before .before .before .before .loop-test .taken)

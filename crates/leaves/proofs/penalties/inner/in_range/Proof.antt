@@ -35,7 +35,9 @@ returns c = rw (c .before .before .p .given .1) (c .alpha-in-range .ensures)
 
 returns-2 : tie.Need-returns-2
 unfolding legal _and_
-returns-2 c = rw (c .before .before .before .before .p2 .given .1, ← c .before .before .alpha-in-range2 .ensures, c .before .if1 .taken) (c .ratio-in-range .ensures)
+returns-2 c =
+    rw (c .before .before .before .before .p2 .given .1, ← c .before .before .alpha-in-range2 .ensures, c .before .if1 .taken)
+    (c .ratio-in-range .ensures)
 
 returns-3 : tie.Need-returns-3
 unfolding legal _and_
@@ -43,7 +45,9 @@ returns-3 c = rw (c .before .before .before .p2 .given .1, ← c .before .alpha-
 
 returns-4 : tie.Need-returns-4
 unfolding legal _and_
-returns-4 c = rw (c .before .before .before .before .p3 .given .1, ← c .before .before .alpha-in-range3 .ensures, c .before .if2 .taken) (c .gamma-in-range .ensures)
+returns-4 c =
+    rw (c .before .before .before .before .p3 .given .1, ← c .before .before .alpha-in-range3 .ensures, c .before .if2 .taken)
+    (c .gamma-in-range .ensures)
 
 returns-5 : tie.Need-returns-5
 unfolding legal _and_

@@ -25,7 +25,14 @@ returns c = rw (c .before .if1 .taken) (c .excess .ensures)
 
 returns-2 : tie.Need-returns-2
 unfolding violationMcp
-returns-2 c = rw (c .before .before .before .before .if1 .left, ← c .before .before .before .abs .ensures, c .before .before .if2 .taken, ← c .before .signum .ensures) (c .abs2 .ensures)
+returns-2 c =
+    rw (
+      c .before .before .before .before .if1 .left,
+      ← c .before .before .before .abs .ensures,
+      c .before .before .if2 .taken,
+      ← c .before .signum .ensures,
+    )
+    (c .abs2 .ensures)
 
 returns-3 : tie.Need-returns-3
 unfolding violationMcp

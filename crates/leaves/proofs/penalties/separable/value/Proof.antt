@@ -32,11 +32,24 @@ refused-requires-3 c κs = search needs
 
 returns-3 : tie.Need-returns-3
 unfolding valueCall _or_
-returns-3 c = rw (le-ltb _ _ (c .before .before .before .before .if1 .left), le-ltb _ _ (c .before .before .before .if2 .left), ← c .before .before .in-range .ensures, c .before .if3 .taken, c .value .ensures)
+returns-3 c =
+    rw (
+      le-ltb _ _ (c .before .before .before .before .if1 .left),
+      le-ltb _ _ (c .before .before .before .if2 .left),
+      ← c .before .before .in-range .ensures,
+      c .before .if3 .taken,
+      c .value .ensures,
+    )
 
 returns-4 : tie.Need-returns-4
 unfolding valueCall _or_
-returns-4 c = c .refused3 .ensures ∙ rw (le-ltb _ _ (c .before .before .before .before .if1 .left), le-ltb _ _ (c .before .before .before .if2 .left), ← c .before .before .in-range .ensures, c .before .if3 .left)
+returns-4 c =
+    c .refused3 .ensures ∙ rw (
+      le-ltb _ _ (c .before .before .before .before .if1 .left),
+      le-ltb _ _ (c .before .before .before .if2 .left),
+      ← c .before .before .in-range .ensures,
+      c .before .if3 .left,
+    )
 
 pub value-spec : {M : Type 1} → statement M
 value-spec =

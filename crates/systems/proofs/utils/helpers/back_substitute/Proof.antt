@@ -28,11 +28,17 @@ loop-less : tie.Need-loop-less Inv-loop μ-loop
 loop-less c = omega arith
 
 loop-again : tie.Need-loop-again Inv-loop μ-loop
-loop-again c = (omega arith, omega arith, c .clear-above .ensures ∙ downward-more _ _ _ _ _ (omega arith) (c .before .before .loop .inv .1) (c .before .before .loop .inv .2))
+loop-again c = (
+  omega arith,
+  omega arith,
+  c .clear-above .ensures ∙ downward-more _ _ _ _ _ (omega arith) (c .before .before .loop .inv .1) (c .before .before .loop .inv .2),
+)
 
 returns : tie.Need-returns Inv-loop μ-loop
 unfolding backSubstituted
-returns c = let z : c .before .before .args .size - c .before .loop .i ≡ c .before .before .args .size - 1 = omega arith in rw z at (c .before .loop .inv .2)
+returns c =
+    let z : c .before .before .args .size - c .before .loop .i ≡ c .before .before .args .size - 1 = omega arith in
+    rw z at (c .before .loop .inv .2)
 
 pub back-substitute-spec : {M : Type 1} → statement M
 back-substitute-spec =

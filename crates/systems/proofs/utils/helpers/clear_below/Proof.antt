@@ -31,7 +31,11 @@ loop-less : tie.Need-loop-less Inv-loop μ-loop
 loop-less c = omega arith
 
 loop-again : tie.Need-loop-again Inv-loop μ-loop
-loop-again c = (omega arith, omega arith, c .clear-row .ensures ∙ upward-more _ _ _ _ _ (c .before .before .loop .inv .0) (c .before .before .loop .inv .2))
+loop-again c = (
+  omega arith,
+  omega arith,
+  c .clear-row .ensures ∙ upward-more _ _ _ _ _ (c .before .before .loop .inv .0) (c .before .before .loop .inv .2),
+)
 
 returns : tie.Need-returns Inv-loop μ-loop
 unfolding clearedBelow

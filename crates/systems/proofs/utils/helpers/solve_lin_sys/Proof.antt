@@ -36,12 +36,27 @@ read-off-requires c κs = search needs
 returns-3 : tie.Need-returns-3
 unfolding solveCall solution eliminated _or_
 returns-3 c =
-    rw (le-ltb _ _ (c .before .before .before .before .before .before .if1 .left), le-ltb _ _ (c .before .before .before .before .before .if2 .left), ← c .before .before .before .before .echelon-form .ensures, ← c .before .before .before .back-substitute .ensures, ← c .before .before .is-regular .ensures, c .before .if3 .taken, c .read-off .ensures)
+    rw (
+      le-ltb _ _ (c .before .before .before .before .before .before .if1 .left),
+      le-ltb _ _ (c .before .before .before .before .before .if2 .left),
+      ← c .before .before .before .before .echelon-form .ensures,
+      ← c .before .before .before .back-substitute .ensures,
+      ← c .before .before .is-regular .ensures,
+      c .before .if3 .taken,
+      c .read-off .ensures,
+    )
 
 returns-4 : tie.Need-returns-4
 unfolding solveCall solution eliminated _or_
 returns-4 c =
-    rw (le-ltb _ _ (c .before .before .before .before .before .if1 .left), le-ltb _ _ (c .before .before .before .before .if2 .left), ← c .before .before .before .echelon-form .ensures, ← c .before .before .back-substitute .ensures, ← c .before .is-regular .ensures, c .if3 .left)
+    rw (
+      le-ltb _ _ (c .before .before .before .before .before .if1 .left),
+      le-ltb _ _ (c .before .before .before .before .if2 .left),
+      ← c .before .before .before .echelon-form .ensures,
+      ← c .before .before .back-substitute .ensures,
+      ← c .before .is-regular .ensures,
+      c .if3 .left,
+    )
 
 pub solve-lin-sys-spec : {M : Type 1} → statement M
 solve-lin-sys-spec =
