@@ -1,39 +1,23 @@
--- "Refusal numbers, in the order they are tested": 1, 3, 4, 5 and 6, each with the place of the first fault; and what follows one.
-use mathlib.Core.Bool.{Bool, true, false, not}
+-- "Refusal numbers, in the order they are tested": 1, 3, 4, 5 and 6, each with the place of the first fault.
+use mathlib.Core.Bool.{Bool, true, not}
 use Prim.Native.Nat.{ℕ, _+_, _-_, _*_}
 use mathlib.Core.List.{List}
 use lib.Dec.{leb, ltb, eqb}
 use lib.ListN.{length, getD}
 use lib.Ieee.{Float}
 use Rattle.doubles.specs.Num.{at, finite, pick, _and_, _or_}
-use Rattle.doubles.specs.Answer.{Outcome, refused, answered}
+use Rattle.doubles.specs.Answer.{refused, Fault, none, unless}
+use Rattle.designs.specs.Given.{Given}
 use Rattle.designs.specs.Search.{firstOf, mark}
 use Rattle.designs.specs.declared.Found.{Found}
 use Rattle.designs.specs.declared.Found.the-variants.{At, Nowhere}
-use Rattle.designs.specs.declared.Verdict.{Verdict}
-use Rattle.designs.specs.declared.Verdict.the-variants as Verdict
 use Rattle.designs.specs.declared.Layout.{Layout}
 use Rattle.designs.specs.declared.Layout.the-variants.{Dense, Csc}
 use Rattle.designs.specs.declared.Shape.{Shape}
 
--- no fault, or a refusal's number and place
-pub data Fault : Type 0 where
-  none : Fault
-  fault : (number place : ℕ) → Fault
-
--- what a verdict stands for
-abbrev pub verdictOf : Verdict → Fault
-verdictOf Verdict.Fine = none
-verdictOf (Verdict.Refused r) = fault (r .number) (r .place)
-
--- 1 and 3 have place 0
-abbrev pub unless : Bool → ℕ → Fault → Fault
-unless true number f = f
-unless false number f = fault number 0
-
--- the others that of what was found
+-- a refusal at the place of what was found
 abbrev pub told : ℕ → Found → Fault → Fault
-told number (At k) f = fault number k
+told number (At k) f = refused number k
 told number Nowhere f = f
 
 -- ---- 1: "n, p or the stored count outside its limits, or array lengths disagree"
@@ -80,32 +64,29 @@ unfoldable pub numbers : ℕ → List Float → List Float → Fault
 numbers n values y = told 6 (notFinite y 0) (told 6 (notFinite values n) none)
 
 -- ---- in their order
-unfoldable pub cscFault : ℕ → ℕ → List ℕ → List ℕ → List Float → List Float → Fault
-cscFault n p starts rows values y =
-    told 4 (badStarts starts (length values)) (told 5 (badRows n p starts rows) (numbers n values y))
+unfoldable pub cscFault : Given → Fault
+cscFault g =
+    told 4 (badStarts (g .starts) (length (g .values)))
+    (told 5 (badRows (g .shape .n) (g .shape .p) (g .starts) (g .rows))
+    (numbers (g .shape .n) (g .values) (g .targets)))
 
 -- 4, 5 and 6; a dense design has no starts and no rows
-unfoldable pub contents : Layout → ℕ → ℕ → List ℕ → List ℕ → List Float → List Float → Fault
-contents Dense n p starts rows values y = numbers n values y
-contents Csc n p starts rows values y = cscFault n p starts rows values y
+unfoldable pub contents : Layout → Given → Fault
+contents Dense g = numbers (g .shape .n) (g .values) (g .targets)
+contents Csc g = cscFault g
 
--- 1, with what a call asks besides the sizes; 3, where a lent buffer lacks its room; then the contents
-unfoldable pub admitted : Shape → List ℕ → List ℕ → List Float → List Float → Bool → Bool → Fault
-admitted s starts rows values y fits room =
-    unless (sizes s starts rows values and fits) 1
-    (unless room 3
-    (contents (s .layout) (s .n) (s .p) starts rows values y))
+-- behind 1: 3, where a lent buffer lacks its room; then the contents
+unfoldable pub sizedFault : Given → Bool → Fault
+sizedFault g room = unless room 3 (contents (g .shape .layout) g)
 
--- the public check: the targets are n
-unfoldable pub checkCall : Shape → List ℕ → List ℕ → List Float → List Float → Fault
-checkCall s starts rows values y = admitted s starts rows values y (eqb (length y) (s .n)) true
+-- 1, with what a call asks besides the sizes; then the others
+unfoldable pub admitted : Given → Bool → Bool → Fault
+admitted g fits room = unless (sizes (g .shape) (g .starts) (g .rows) (g .values) and fits) 1 (sizedFault g room)
 
--- ---- what follows a fault, or none
-abbrev pub after : {A : Type 0} → Fault → A → Outcome A
-after none a = answered a
-after (fault number place) a = refused number place
+-- the targets are n
+abbrev pub targetsFit : Given → Bool
+targetsFit g = eqb (length (g .targets)) (g .shape .n)
 
--- "Refusals 1 to 6 .. change no lent buffer"
-abbrev pub left : {A : Type 0} → Fault → A → A → A
-left none new old = new
-left (fault number place) new old = old
+-- the public check
+unfoldable pub checkCall : Given → Fault
+checkCall g = admitted g (targetsFit g) true

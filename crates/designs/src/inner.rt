@@ -4,13 +4,15 @@ ghost use mathlib.Core.Bool.{true};
 ghost use Prim.Native.Nat.{_+_, _<_, _≤_};
 ghost use lib.ListN.{length, getD};
 ghost use Rattle.doubles.specs.Num as num;
+ghost use Rattle.doubles.specs.Answer.{refused as refused', verdictOf};
+ghost use Rattle.designs.specs.Given.{given};
 ghost use Rattle.designs.specs.Checks as checks';
 ghost use Rattle.designs.specs.Sound.{Rising};
 use crate::Found;
 use crate::Layout;
 use crate::Shape;
-use crate::Verdict;
 use doubles::Refusal;
+use doubles::Verdict;
 use doubles::is_finite;
 
 // a and b, as values: a test that a caller made is not known any more behind `&&`.
@@ -20,8 +22,8 @@ pub fn both(a: bool, b: bool) -> bool
     if a { b } else { false }
 }
 
-fn refused(number: u32, place: usize) -> Verdict
-    ensures { λ r. ⌜ checks'.verdictOf r ≡ checks'.fault number place ⌝ }
+pub fn refused(number: u32, place: usize) -> Verdict
+    ensures { λ r. ⌜ verdictOf r ≡ refused' number place ⌝ }
 {
     Verdict::Refused(Refusal {
         number: number,
@@ -189,7 +191,7 @@ fn first_not_finite(xs: &[f64], from: usize) -> Found
 // The targets first, then the stored values.
 pub fn check_numbers(n: usize, values: &[f64], y: &[f64]) -> Verdict
     requires { ⌜ n ≤ 65536 ⌝ }
-    ensures { λ r. ⌜ checks'.verdictOf r ≡ checks'.numbers n (now (values .entry)) (now (y .entry)) ⌝ }
+    ensures { λ r. ⌜ verdictOf r ≡ checks'.numbers n (now (values .entry)) (now (y .entry)) ⌝ }
 {
     if let Found::At(k) = first_not_finite(y, 0) {
         return refused(6, k);
@@ -205,7 +207,7 @@ pub fn check_numbers(n: usize, values: &[f64], y: &[f64]) -> Verdict
 // 4, 5 and 6 of a sparse design.
 fn check_csc(shape: Shape, starts: &[u32], rows: &[u32], values: &[f64], y: &[f64]) -> Verdict
     requires { ⌜ (shape .n ≤ 65536) × (length (now starts) ≡ shape .p + 1) × (length (now rows) ≡ length (now values)) ⌝ }
-    ensures { λ r. ⌜ checks'.verdictOf r ≡ checks'.cscFault (shape .n) (shape .p) (now (starts .entry)) (now (rows .entry)) (now (values .entry)) (now (y .entry)) ⌝ }
+    ensures { λ r. ⌜ verdictOf r ≡ checks'.cscFault (given shape (now (starts .entry)) (now (rows .entry)) (now (values .entry)) (now (y .entry))) ⌝ }
 {
     if let Found::At(k) = first_bad_start(starts, values.len()) {
         return refused(4, k);
@@ -219,13 +221,33 @@ fn check_csc(shape: Shape, starts: &[u32], rows: &[u32], values: &[f64], y: &[f6
 // 4, 5 and 6.
 fn check_contents(shape: Shape, starts: &[u32], rows: &[u32], values: &[f64], y: &[f64]) -> Verdict
     requires { ⌜ checks'.sizes shape (now starts) (now rows) (now values) ≡ true ⌝ }
-    ensures { λ r. ⌜ checks'.verdictOf r ≡ checks'.contents (shape .layout) (shape .n) (shape .p) (now (starts .entry)) (now (rows .entry)) (now (values .entry)) (now (y .entry)) ⌝ }
+    ensures { λ r. ⌜ (let g = given shape (now (starts .entry)) (now (rows .entry)) (now (values .entry)) (now (y .entry)) in
+        verdictOf r ≡ checks'.contents (shape .layout) g) ⌝ }
 {
     let layout = shape.layout;
     match layout {
         Layout::Dense => check_numbers(shape.n, values, y),
         Layout::Csc => check_csc(shape, starts, rows, values, y),
     }
+}
+
+// 3 to 6, behind the test of the sizes: `room` is whether each lent buffer has its room.
+pub fn check_sized(
+    shape: Shape,
+    starts: &[u32],
+    rows: &[u32],
+    values: &[f64],
+    y: &[f64],
+    room: bool,
+) -> Verdict
+    requires { ⌜ checks'.sizes shape (now starts) (now rows) (now values) ≡ true ⌝ }
+    ensures { λ r. ⌜ (let g = given shape (now (starts .entry)) (now (rows .entry)) (now (values .entry)) (now (y .entry)) in
+        verdictOf r ≡ checks'.sizedFault g room) ⌝ }
+{
+    if room {
+        return check_contents(shape, starts, rows, values, y);
+    }
+    refused(3, 0)
 }
 
 // 1, 3, 4, 5 and 6: `fits` is what 1 asks besides the sizes, `room` whether each lent buffer has its room. A call without targets passes none.
@@ -238,14 +260,12 @@ pub fn admit(
     fits: bool,
     room: bool,
 ) -> Verdict
-    ensures { λ r. ⌜ checks'.verdictOf r ≡ checks'.admitted shape (now (starts .entry)) (now (rows .entry)) (now (values .entry)) (now (y .entry)) fits room ⌝ }
+    ensures { λ r. ⌜ (let g = given shape (now (starts .entry)) (now (rows .entry)) (now (values .entry)) (now (y .entry)) in
+        verdictOf r ≡ checks'.admitted g fits room) ⌝ }
 {
     if sizes_agree(shape, starts, rows, values) {
         if fits {
-            if room {
-                return check_contents(shape, starts, rows, values, y);
-            }
-            return refused(3, 0);
+            return check_sized(shape, starts, rows, values, y, room);
         }
         return refused(1, 0);
     }

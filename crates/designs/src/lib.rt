@@ -1,8 +1,10 @@
 // Designs in both layouts, and what is tested of them before a call does its work. A design is a shape and three slices: the stored values,
 // and for CSC the column starts and the row of each stored value; a dense design has no starts and no rows, and lies row by row.
 ghost use mathlib.Core.Path.{_≡_};
+ghost use Rattle.doubles.specs.Answer.{verdictOf};
+ghost use Rattle.designs.specs.Given.{given};
 ghost use Rattle.designs.specs.Checks as checks';
-use doubles::Refusal;
+use doubles::Verdict;
 
 pub mod inner;
 
@@ -31,15 +33,9 @@ pub enum Found {
     Nowhere,
 }
 
-// What the tests say.
-pub enum Verdict {
-    Fine,
-    Refused(Refusal),
-}
-
 // The check of a design and its targets: refusals 1, 4, 5 and 6.
 pub fn check(shape: Shape, starts: &[u32], rows: &[u32], values: &[f64], y: &[f64]) -> Verdict
-    ensures { λ r. ⌜ checks'.verdictOf r ≡ checks'.checkCall shape (now (starts .entry)) (now (rows .entry)) (now (values .entry)) (now (y .entry)) ⌝ }
+    ensures { λ r. ⌜ verdictOf r ≡ checks'.checkCall (given shape (now (starts .entry)) (now (rows .entry)) (now (values .entry)) (now (y .entry))) ⌝ }
 {
     let fits = y.len() == shape.n;
     inner::admit(shape, starts, rows, values, y, fits, true)

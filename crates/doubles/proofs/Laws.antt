@@ -13,6 +13,7 @@ pub mod Signs
 pub mod Steps
 pub mod Ends
 pub mod Buffer
+pub mod Verdict
 pub mod Parts
 pub mod Counts
 pub mod Sorted

@@ -1,10 +1,12 @@
 -- Any two outcomes that a public promise allows coincide. `Post` is the promise as the check reads it: of the arguments, the result and
 -- what the parameters are at exit. A reading of an enum by cases loses nothing, so it is enough that the readings coincide. Assumes nothing.
-use mathlib.Core.Path.{_≡_, sym, ap, _∙_}
+use mathlib.Core.Path.{_≡_, refl, sym, ap, _∙_}
 use mathlib.Core.Bool.{Bool}
 use lib.Ieee.{Float}
-use Rattle.doubles.specs.Answer.{Outcome, refused, numberOf}
+use Rattle.doubles.specs.Answer.{Outcome, refused, numberOf, verdictOf}
 use Rattle.doubles.specs.declared.Refusal.{Refusal}
+use Rattle.doubles.specs.declared.Verdict.{Verdict}
+use Rattle.doubles.specs.declared.Verdict.the-variants as Verdict
 use Rattle.doubles.specs.declared.Number.{Number}
 use Rattle.doubles.specs.declared.Number.the-variants as Number
 use Rattle.doubles.proofs.abs.Reads as abs-reads
@@ -29,6 +31,12 @@ one-number (Number.Refused r) (Number.Refused s) e = ap Number.Refused (one-refu
 one-number (Number.Refused r) (Number.Is y) e = cc
 one-number (Number.Is x) (Number.Refused s) e = cc
 one-number (Number.Is x) (Number.Is y) e = cc
+
+pub one-verdict : (a b : Verdict) → verdictOf a ≡ verdictOf b → a ≡ b
+one-verdict Verdict.Fine Verdict.Fine e = refl
+one-verdict Verdict.Fine (Verdict.Refused s) e = cc
+one-verdict (Verdict.Refused r) Verdict.Fine e = cc
+one-verdict (Verdict.Refused r) (Verdict.Refused s) e = ap Verdict.Refused (one-refusal r s e)
 
 -- ---- the public calls
 abs-tight : (a : _) (r r' : Float) (s : _) → abs-reads.Post tt a r s → abs-reads.Post tt a r' s → r ≡ r'

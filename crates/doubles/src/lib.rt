@@ -10,6 +10,12 @@ pub struct Refusal {
     pub place: usize,
 }
 
+// What tests say.
+pub enum Verdict {
+    Fine,
+    Refused(Refusal),
+}
+
 // What a call that answers a double answers.
 pub enum Number {
     Refused(Refusal),

@@ -1,5 +1,5 @@
--- A design that passes the tests is sound, and what passed beside it; what a call answers and leaves behind a verdict. Assumes nothing.
-use mathlib.Core.Path.{_≡_, refl, sym, ap, _∙_}
+-- A design that passes the tests is sound, and what passed beside it. Assumes nothing.
+use mathlib.Core.Path.{_≡_, refl, sym, _∙_}
 use mathlib.Core.Bool.{Bool, true, false, false≢true}
 use mathlib.Core.Logic.{_⊎_, inl, inr, ⊎-elim}
 use Prim.Native.Nat.{ℕ, zero, suc, _+_, _-_, _*_, _≤_, _<_}
@@ -14,21 +14,20 @@ use lib.Ieee.{Float}
 use Rattle.doubles.specs.Num.{_and_}
 use Rattle.doubles.proofs.Laws.Choice.{and-both}
 use Rattle.doubles.proofs.Laws.Ends.{or-fails, neither-holds}
-use Rattle.doubles.specs.Answer.{refused, answered}
-use Rattle.doubles.specs.declared.Refusal.{Refusal}
+use Rattle.doubles.specs.Answer.{Fault, none}
+use Rattle.doubles.proofs.Laws.Verdict.{answers-not-refused, spared}
 use Rattle.designs.specs.Search.{mark}
 use Rattle.designs.proofs.Laws.Search.{unmarked, first-none, none-first}
 use Rattle.designs.proofs.Laws.Layouts.{row-below}
 use Rattle.designs.specs.Sound.{Rising, Sound, Held, Whole}
-use Rattle.designs.specs.Checks.{Fault, none, fault, verdictOf, after, left, unless, told, lengths, sizes}
+use Rattle.designs.specs.Given.{Given}
+use Rattle.designs.specs.Checks.{told, lengths, sizes, sizedFault}
 use Rattle.designs.specs.Checks.{falls, badStart, badStarts, badRow, badColumn, badRows, cscFault, contents, admitted}
 use Rattle.designs.specs.declared.Found.{Found}
 use Rattle.designs.specs.declared.Found.the-variants.{At, Nowhere}
 use Rattle.designs.specs.declared.Layout.{Layout}
 use Rattle.designs.specs.declared.Layout.the-variants.{Dense, Csc}
 use Rattle.designs.specs.declared.Shape.{Shape}
-use Rattle.designs.specs.declared.Verdict.{Verdict}
-use Rattle.designs.specs.declared.Verdict.the-variants as Verdict
 
 -- ---- connectives
 not-second : (a b : Bool) → (a and b) ≡ false → a ≡ true → b ≡ false
@@ -159,35 +158,35 @@ module _ (n p : ℕ) (starts rows : List ℕ) (b : badRows n p starts rows ≡ N
 -- ---- all of them together
 untold : (number : ℕ) (f : Found) (g : Fault) → told number f g ≡ none → (f ≡ Nowhere) × (g ≡ none)
 untold number Nowhere g e = (refl, e)
-untold number (At k) g e = absurd (let z : _≡_ {A = ℕ} 0 1 = cc in omega arith)
-
-pub spared : (b : Bool) (number : ℕ) (g : Fault) → unless b number g ≡ none → (b ≡ true) × (g ≡ none)
-spared true number g e = (refl, e)
-spared false number g e = absurd (let z : _≡_ {A = ℕ} 0 1 = cc in omega arith)
+untold number (At k) g e = answers-not-refused number k tt e
 
 pub rising-rows : (p m r : ℕ) (starts : List ℕ) (a : Found) → length starts ≡ p + 1 → r ≡ m → a ≡ badStarts starts m → a ≡ Nowhere → Rising p r starts
 rising-rows p m r starts a hs hr ea ha = rw hr (rises p m starts hs (sym ea ∙ ha))
 
-module _ (n p : ℕ) (starts rows : List ℕ) (values y : List Float) where
-  sound : length starts ≡ p + 1 → length rows ≡ length values → cscFault n p starts rows values y ≡ none → Sound n p starts rows values
+module _ (g : Given) where
+  sound : length (g .starts) ≡ g .shape .p + 1 → length (g .rows) ≡ length (g .values) → cscFault g ≡ none
+      → Sound (g .shape .n) (g .shape .p) (g .starts) (g .rows) (g .values)
   unfolding cscFault
   sound hs hr e =
-      let a = untold 4 (badStarts starts (length values)) _ e in
-      let b = untold 5 (badRows n p starts rows) _ (a .1) in
-      let s = rises p (length values) starts hs (a .0) in
+      let p = g .shape .p in
+      let a = untold 4 (badStarts (g .starts) (length (g .values))) _ e in
+      let b = untold 5 (badRows (g .shape .n) p (g .starts) (g .rows)) _ (a .1) in
+      let s = rises p (length (g .values)) (g .starts) hs (a .0) in
       record {
         columns = hs;
         entries = hr;
         rising = s;
-        below = rows-below n p starts rows (b .0) (length values) s;
-        ascending = rows-ascend n p starts rows (b .0);
+        below = rows-below (g .shape .n) p (g .starts) (g .rows) (b .0) (length (g .values)) s;
+        ascending = rows-ascend (g .shape .n) p (g .starts) (g .rows) (b .0);
       }
 
-  held : (l : Layout) → lengths l n p starts rows values ≡ true → contents l n p starts rows values y ≡ none → Held l n p starts rows values
+  held : (l : Layout) → lengths l (g .shape .n) (g .shape .p) (g .starts) (g .rows) (g .values) ≡ true → contents l g ≡ none
+      → Held l (g .shape .n) (g .shape .p) (g .starts) (g .rows) (g .values)
   unfolding Held contents
-  held Dense h e = le-of-eq (sym (dense-values n p starts rows values h))
-  held Csc h e = sound (csc-starts n p starts rows values h) (csc-rows n p starts rows values h) e
+  held Dense h e = le-of-eq (sym (dense-values _ _ (g .starts) (g .rows) (g .values) h))
+  held Csc h e = sound (csc-starts _ _ (g .starts) (g .rows) (g .values) h) (csc-rows _ _ (g .starts) (g .rows) (g .values) h) e
 
+module _ (n p : ℕ) (starts rows : List ℕ) (values : List Float) where
   -- and a sound one passes: 4 and 5 are given exactly where it is not
   sound-last : Sound n p starts rows values → (i : ℕ) → i + 1 ≡ length starts → getD starts i 0 ≡ length values
   sound-last S i h =
@@ -218,39 +217,24 @@ module _ (n p : ℕ) (starts rows : List ℕ) (values y : List Float) where
         (second-of _ _ (λ t. lt-leb (getD rows (getD starts j 0 + k) 0) (getD rows (getD starts j 0 + k - 1) 0) (S .ascending j k hj hk (ltb-true 0 k t))))))),
   )
 
--- what a call may count on behind `admit`
-pub record Admitted (s : Shape) (starts rows : List ℕ) (values : List Float) (fits room : Bool) : Type 0 where
-  pub sized : Sized s starts rows values
+-- what a call may count on behind the tests
+pub record Admitted (g : Given) (fits room : Bool) : Type 0 where
+  pub sized : Sized (g .shape) (g .starts) (g .rows) (g .values)
   pub fit : fits ≡ true
   pub roomy : room ≡ true
-  pub whole : Whole s starts rows values
+  pub whole : Whole (g .shape) (g .starts) (g .rows) (g .values)
 
-pub admits : (s : Shape) (starts rows : List ℕ) (values y : List Float) (fits room : Bool) → admitted s starts rows values y fits room ≡ none
-    → Admitted s starts rows values fits room
+pub admits-sized : (g : Given) (fits room : Bool) → (sizes (g .shape) (g .starts) (g .rows) (g .values) and fits) ≡ true → sizedFault g room ≡ none
+    → Admitted g fits room
+unfolding sizedFault
+admits-sized g fits room h e =
+    let b = and-both _ _ h in
+    let c = spared room 3 _ e in
+    let z = sized (g .shape) (g .starts) (g .rows) (g .values) (b .0) in
+    record { sized = z; fit = b .1; roomy = c .0; whole = held g (g .shape .layout) (z .agree) (c .1) }
+
+pub admits : (g : Given) (fits room : Bool) → admitted g fits room ≡ none → Admitted g fits room
 unfolding admitted
-admits s starts rows values y fits room e =
-    let a = spared (sizes s starts rows values and fits) 1 _ e in
-    let b = and-both _ _ (a .0) in
-    let c = spared room 3 _ (a .1) in
-    let z = sized s starts rows values (b .0) in
-    record { sized = z; fit = b .1; roomy = c .0; whole = held (s .n) (s .p) starts rows values y (s .layout) (z .agree) (c .1) }
-
--- ---- what follows a verdict: where the tests refuse, the refusal and unchanged buffers; where they pass, the answer
-module _ (v : Verdict) {f : Fault} (e : verdictOf v ≡ f) where
-  pub stop : (r : Refusal) → v ≡ Verdict.Refused r → fault (r .number) (r .place) ≡ f
-  stop r h = sym (ap verdictOf h) ∙ e
-
-  pub stop-after : {A : Type 0} (a : A) (r : Refusal) → v ≡ Verdict.Refused r → refused (r .number) (r .place) ≡ after f a
-  stop-after a r h = rw (← stop r h)
-
-  pub stop-left : {A : Type 0} (new old : A) (r : Refusal) → v ≡ Verdict.Refused r → old ≡ left f new old
-  stop-left new old r h = rw (← stop r h)
-
-  pub pass : v ≡ Verdict.Fine → none ≡ f
-  pass h = sym (ap verdictOf h) ∙ e
-
-  pub pass-after : {A : Type 0} (a x : A) → v ≡ Verdict.Fine → x ≡ a → answered x ≡ after f a
-  pass-after a x h q = rw (← pass h, q)
-
-  pub pass-left : {A : Type 0} (new old x : A) → v ≡ Verdict.Fine → x ≡ new → x ≡ left f new old
-  pass-left new old x h q = rw (← pass h) q
+admits g fits room e =
+    let a = spared (sizes (g .shape) (g .starts) (g .rows) (g .values) and fits) 1 _ e in
+    admits-sized g fits room (a .0) (a .1)

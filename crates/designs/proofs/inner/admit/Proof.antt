@@ -1,4 +1,4 @@
--- `admit`: sizes, what the call asks besides, room, contents. Assumes nothing.
+-- `admit`: sizes, and what the call asks besides; then the rest behind them. Assumes nothing.
 use mathlib.Core.Path.{sym, _∙_}
 use Rattle.doubles.specs.Num.{_and_}
 use Rattle.designs.specs.Checks.{admitted}
@@ -9,57 +9,36 @@ use Rattle.designs.proofs.inner.admit.Tie as tie
 sizes-agree-requires : tie.Need-sizes-agree-requires
 sizes-agree-requires c κs = search needs
 
-check-contents-requires : tie.Need-check-contents-requires
-check-contents-requires c κs = sym (c .before .before .before .sizes-agree .ensures) ∙ c .before .before .if1 .taken
+check-sized-requires : tie.Need-check-sized-requires
+check-sized-requires c κs = sym (c .before .before .sizes-agree .ensures) ∙ c .before .if1 .taken
 
 returns : tie.Need-returns
 unfolding admitted _and_
 returns c =
-    c .check-contents .ensures ∙ rw (
-      ← c .before .before .before .before .sizes-agree .ensures,
-      c .before .before .before .if1 .taken,
-      c .before .before .if2 .taken,
-      c .before .if3 .taken,
-    )
+    c .check-sized .ensures ∙ rw (← c .before .before .before .sizes-agree .ensures, c .before .before .if1 .taken, c .before .if2 .taken)
 
 refused-requires : tie.Need-refused-requires
 refused-requires c κs = search needs
 
 returns-2 : tie.Need-returns-2
 unfolding admitted _and_
-returns-2 c =
-    c .refused .ensures ∙ rw (
-      ← c .before .before .before .before .sizes-agree .ensures,
-      c .before .before .before .if1 .taken,
-      c .before .before .if2 .taken,
-      c .before .if3 .left,
-    )
+returns-2 c = c .refused .ensures ∙ rw (← c .before .before .before .sizes-agree .ensures, c .before .before .if1 .taken, c .before .if2 .left)
 
 refused-requires-2 : tie.Need-refused-requires-2
 refused-requires-2 c κs = search needs
 
 returns-3 : tie.Need-returns-3
 unfolding admitted _and_
-returns-3 c =
-    c .refused2 .ensures ∙ rw (← c .before .before .before .sizes-agree .ensures, c .before .before .if1 .taken, c .before .if2 .left)
-
-refused-requires-3 : tie.Need-refused-requires-3
-refused-requires-3 c κs = search needs
-
-returns-4 : tie.Need-returns-4
-unfolding admitted _and_
-returns-4 c = c .refused3 .ensures ∙ rw (← c .before .before .sizes-agree .ensures, c .before .if1 .left)
+returns-3 c = c .refused2 .ensures ∙ rw (← c .before .before .sizes-agree .ensures, c .before .if1 .left)
 
 pub admit-spec : {M : Type 1} → statement M
 admit-spec =
     tie.close
     (tie.spec
     sizes-agree-requires
-    check-contents-requires
+    check-sized-requires
     returns
     refused-requires
     returns-2
     refused-requires-2
-    returns-3
-    refused-requires-3
-    returns-4)
+    returns-3)

@@ -1,6 +1,6 @@
 -- `check_contents` goes by the layout. Assumes nothing.
 use mathlib.Core.Path.{_≡_}
-use Rattle.designs.specs.Checks.{lengths, contents}
+use Rattle.designs.specs.Checks.{lengths, cscFault, contents}
 use Rattle.designs.proofs.Laws.Passed.{sized, csc-starts, csc-rows}
 use mathlib.Core.Bool.{true}
 use borrow.Author.Needs.{needs}
@@ -27,7 +27,7 @@ unfolding contents
 returns c = rw (c .before .enum-told .given .1) (c .check-numbers .ensures)
 
 returns-2 : tie.Need-returns-2
-unfolding contents
+unfolding contents cscFault
 returns-2 c = rw (c .before .enum-told2 .given .1) (c .check-csc .ensures)
 
 pub check-contents-spec : {M : Type 1} → statement M

@@ -1,0 +1,63 @@
+-- What tests found, and what follows: where they refuse, the refusal and unchanged buffers; where they pass, the answer. Assumes nothing.
+use mathlib.Core.Path.{_≡_, refl, sym, ap, _∙_}
+use mathlib.Core.Bool.{Bool, true, false, false≢true}
+use Prim.Native.Nat.{ℕ, _≤_}
+use native.Mathlib.Omega.{arith}
+use Rattle.doubles.specs.Answer.{Outcome, refused, answered, Fault, none, verdictOf, unless, _then_, after, left, passes}
+use Rattle.doubles.specs.declared.Refusal.{Refusal}
+use Rattle.doubles.specs.declared.Verdict.{Verdict}
+use Rattle.doubles.specs.declared.Verdict.the-variants as Verdict
+
+-- ---- a chain of tests that found nothing
+pub answers-not-refused : {A : Type 0} {B : Type 0} (number place : ℕ) (a : A) → _≡_ {A = Outcome A} (refused number place) (answered a) → B
+answers-not-refused number place a e = absurd (let z : _≡_ {A = ℕ} 0 1 = cc in omega arith)
+
+pub spared : (b : Bool) (number : ℕ) (f : Fault) → unless b number f ≡ none → (b ≡ true) × (f ≡ none)
+spared true number f e = (refl, e)
+spared false number f e = answers-not-refused number 0 tt e
+
+pub then-none : (f g : Fault) → (f then g) ≡ none → (f ≡ none) × (g ≡ none)
+then-none (answered u) g e = (refl, e)
+then-none (refused number place) g e = answers-not-refused number place tt e
+
+pub passes-none : (f : Fault) → passes f ≡ true → f ≡ none
+passes-none (answered u) e = refl
+passes-none (refused number place) e = absurd (false≢true e)
+
+-- ---- behind a verdict
+module _ (v : Verdict) {f : Fault} (e : verdictOf v ≡ f) where
+  pub stop : (r : Refusal) → v ≡ Verdict.Refused r → refused (r .number) (r .place) ≡ f
+  stop r h = sym (ap verdictOf h) ∙ e
+
+  pub stop-after : {A : Type 0} (a : A) (r : Refusal) → v ≡ Verdict.Refused r → refused (r .number) (r .place) ≡ after f a
+  stop-after a r h = rw (← stop r h)
+
+  pub stop-left : {A : Type 0} (new old : A) (r : Refusal) → v ≡ Verdict.Refused r → old ≡ left f new old
+  stop-left new old r h = rw (← stop r h)
+
+  pub pass : v ≡ Verdict.Fine → none ≡ f
+  pass h = sym (ap verdictOf h) ∙ e
+
+  pub pass-after : {A : Type 0} (a x : A) → v ≡ Verdict.Fine → x ≡ a → answered x ≡ after f a
+  pass-after a x h q = rw (← pass h, q)
+
+  pub pass-left : {A : Type 0} (new old x : A) → v ≡ Verdict.Fine → x ≡ new → x ≡ left f new old
+  pass-left new old x h q = rw (← pass h) q
+
+-- ---- the numbers that tests give
+pub record AtMost (m : ℕ) (f : Fault) : Type 0 where
+  pub most : (number place : ℕ) → f ≡ refused number place → number ≤ m
+
+pub none-most : (m : ℕ) → AtMost m none
+none-most m = record { most = λ number place e. answers-not-refused number place tt (sym e) }
+
+pub refused-most : {m number : ℕ} → number ≤ m → (place : ℕ) → AtMost m (refused number place)
+refused-most {m} {number} h place = record { most = λ n i e. (let q : number ≡ n = cc in rw (← q) h) }
+
+pub unless-most : {m : ℕ} (number : ℕ) → number ≤ m → {f : Fault} (b : Bool) → AtMost m f → AtMost m (unless b number f)
+unless-most number h true k = k
+unless-most number h false k = refused-most h 0
+
+pub then-most : {m : ℕ} (f : Fault) {g : Fault} → AtMost m f → AtMost m g → AtMost m (f then g)
+then-most (answered u) a b = b
+then-most (refused number place) a b = refused-most (a .most number place refl) place
