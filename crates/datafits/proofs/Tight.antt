@@ -2,10 +2,9 @@
 -- it: of the arguments, the result and the parameters at exit. Assumes nothing.
 use mathlib.Core.Path.{_≡_}
 use denote.Ref.{now}
-use Rattle.doubles.proofs.Tight.{coincide, one-number}
+use Rattle.doubles.proofs.Tight.{coincide, one-number, one-verdict}
 use Rattle.doubles.specs.declared.Number.{Number}
-use Rattle.designs.specs.declared.Verdict.{Verdict}
-use Rattle.designs.proofs.Tight.{one-verdict}
+use Rattle.doubles.specs.declared.Verdict.{Verdict}
 use Rattle.datafits.proofs.initialize.Reads as initialize-reads
 use Rattle.datafits.proofs.gradient_j.Reads as gradient-j-reads
 use Rattle.datafits.proofs.full_grad.Reads as full-grad-reads

@@ -3,16 +3,16 @@
 use mathlib.Core.Bool.{Bool, true}
 use mathlib.Core.List.{List, []}
 use Prim.Native.Nat.{ℕ, _+_}
-use lib.Dec.{leb, ltb, eqb}
+use lib.Dec.{leb, ltb}
 use lib.ListN.{length, getD, take}
 use lib.Ieee.{Float}
 use Rattle.doubles.specs.Num.{at, _and_}
 use Rattle.doubles.specs.Steps.{all}
 use Rattle.doubles.specs.Buffer.{put}
-use Rattle.doubles.specs.Answer.{Outcome}
-use Rattle.designs.specs.Design.{design, prepared, gradient, fullGradient, datafit, alphaMax, dots, moved, extrapolated}
-use Rattle.designs.specs.Checks.{Fault, unless, numbers, admitted, after, left}
-use Rattle.designs.specs.declared.Shape.{Shape}
+use Rattle.doubles.specs.Answer.{Outcome, Fault, unless, after, left}
+use Rattle.designs.specs.Design.{prepared, gradient, fullGradient, datafit, alphaMax, dots, moved, extrapolated}
+use Rattle.designs.specs.Given.{Given, designOf}
+use Rattle.designs.specs.Checks.{numbers, admitted, targetsFit}
 
 -- room for 2p prepared numbers
 abbrev pub roomTwice : ℕ → List Float → Bool
@@ -23,28 +23,26 @@ abbrev pub first : ℕ → List Float → List Float
 first n l = take n l
 
 -- ---- initialize: constants and X'y
-unfoldable pub initializeFault : Shape → List ℕ → List ℕ → List Float → List Float → List Float → Fault
-initializeFault s starts rows values y buf = admitted s starts rows values y (eqb (length y) (s .n)) (roomTwice (s .p) buf)
+unfoldable pub initializeFault : Given → List Float → Fault
+initializeFault g buf = admitted g (targetsFit g) (roomTwice (g .shape .p) buf)
 
-unfoldable pub initialized : Shape → List ℕ → List ℕ → List Float → List Float → List Float → List Float
-initialized s starts rows values y buf = left (initializeFault s starts rows values y buf) (put buf 0 (prepared (design s starts rows values) y)) buf
+unfoldable pub initialized : Given → List Float → List Float
+initialized g buf = left (initializeFault g buf) (put buf 0 (prepared (designOf g) (g .targets))) buf
 
--- ---- gradient_j: "a feature number at or above p is 1"
-unfoldable pub gradientFault : Shape → List ℕ → List ℕ → List Float → List Float → List Float → ℕ → Fault
-gradientFault s starts rows values q fit j = admitted s starts rows values [] (ltb j (s .p)) (roomTwice (s .p) q and leb (s .n) (length fit))
+-- ---- gradient_j: "a feature number at or above p is 1"; no targets, as in all calls below that are given none
+unfoldable pub gradientFault : Given → List Float → List Float → ℕ → Fault
+gradientFault g q fit j = admitted g (ltb j (g .shape .p)) (roomTwice (g .shape .p) q and leb (g .shape .n) (length fit))
 
-unfoldable pub gradientCall : Shape → List ℕ → List ℕ → List Float → List Float → List Float → ℕ → Outcome Float
-gradientCall s starts rows values q fit j =
-    after (gradientFault s starts rows values q fit j) (gradient (design s starts rows values) j fit (at q (s .p + j)))
+unfoldable pub gradientCall : Given → List Float → List Float → ℕ → Outcome Float
+gradientCall g q fit j = after (gradientFault g q fit j) (gradient (designOf g) j fit (at q (g .shape .p + j)))
 
 -- ---- full_grad
-unfoldable pub fullGradFault : Shape → List ℕ → List ℕ → List Float → List Float → List Float → List Float → Fault
-fullGradFault s starts rows values q fit grad =
-    admitted s starts rows values [] true (roomTwice (s .p) q and leb (s .n) (length fit) and leb (s .p) (length grad))
+unfoldable pub fullGradFault : Given → List Float → List Float → List Float → Fault
+fullGradFault g q fit grad =
+    admitted g true (roomTwice (g .shape .p) q and leb (g .shape .n) (length fit) and leb (g .shape .p) (length grad))
 
-unfoldable pub fullGrad : Shape → List ℕ → List ℕ → List Float → List Float → List Float → List Float → List Float
-fullGrad s starts rows values q fit grad =
-    left (fullGradFault s starts rows values q fit grad) (put grad 0 (fullGradient (design s starts rows values) fit (λ j. at q (s .p + j)))) grad
+unfoldable pub fullGrad : Given → List Float → List Float → List Float → List Float
+fullGrad g q fit grad = left (fullGradFault g q fit grad) (put grad 0 (fullGradient (designOf g) fit (λ j. at q (g .shape .p + j)))) grad
 
 -- ---- value: n is the number of targets
 unfoldable pub valueFault : List Float → List Float → Fault
@@ -57,31 +55,30 @@ unfoldable pub valueCall : List Float → List Float → Outcome Float
 valueCall y fit = after (valueFault y fit) (datafit y fit (length y))
 
 -- ---- update_model_fit
-unfoldable pub updateFault : Shape → List ℕ → List ℕ → List Float → List Float → ℕ → Fault
-updateFault s starts rows values fit j = admitted s starts rows values [] (ltb j (s .p)) (leb (s .n) (length fit))
+unfoldable pub updateFault : Given → List Float → ℕ → Fault
+updateFault g fit j = admitted g (ltb j (g .shape .p)) (leb (g .shape .n) (length fit))
 
-unfoldable pub updated : Shape → List ℕ → List ℕ → List Float → List Float → Float → ℕ → List Float
-updated s starts rows values fit d j = left (updateFault s starts rows values fit j) (moved (design s starts rows values) j d fit) fit
+unfoldable pub updated : Given → List Float → Float → ℕ → List Float
+updated g fit d j = left (updateFault g fit j) (moved (designOf g) j d fit) fit
 
 -- ---- compute_extrapolated_fit: at most p features, each below p, in any order
 unfoldable pub allBelow : List ℕ → ℕ → Bool
 allBelow ws p = all (λ k. ltb (getD ws k 0) p) (length ws)
 
-unfoldable pub extrapolatedFault : Shape → List ℕ → List ℕ → List Float → List ℕ → List Float → List Float → Fault
-extrapolatedFault s starts rows values ws w fit =
-    admitted s starts rows values [] (leb (length ws) (s .p) and allBelow ws (s .p)) (leb (s .p) (length w) and leb (s .n) (length fit))
+unfoldable pub extrapolatedFault : Given → List ℕ → List Float → List Float → Fault
+extrapolatedFault g ws w fit =
+    admitted g (leb (length ws) (g .shape .p) and allBelow ws (g .shape .p)) (leb (g .shape .p) (length w) and leb (g .shape .n) (length fit))
 
-unfoldable pub extrapolatedFit : Shape → List ℕ → List ℕ → List Float → List ℕ → List Float → List Float → List Float
-extrapolatedFit s starts rows values ws w fit =
-    left (extrapolatedFault s starts rows values ws w fit) (put fit 0 (extrapolated (design s starts rows values) ws (first (s .p) w))) fit
+unfoldable pub extrapolatedFit : Given → List ℕ → List Float → List Float → List Float
+extrapolatedFit g ws w fit = left (extrapolatedFault g ws w fit) (put fit 0 (extrapolated (designOf g) ws (first (g .shape .p) w))) fit
 
 -- ---- compute_alpha_max and compute_alpha_max_sparse
-unfoldable pub alphaMaxFault : Shape → List ℕ → List ℕ → List Float → List Float → List Float → Fault
-alphaMaxFault s starts rows values y buf = admitted s starts rows values y (eqb (length y) (s .n)) (leb (s .p) (length buf))
+unfoldable pub alphaMaxFault : Given → List Float → Fault
+alphaMaxFault g buf = admitted g (targetsFit g) (leb (g .shape .p) (length buf))
 
-unfoldable pub alphaMaxCall : Shape → List ℕ → List ℕ → List Float → List Float → List Float → Outcome Float
-alphaMaxCall s starts rows values y buf = after (alphaMaxFault s starts rows values y buf) (alphaMax (design s starts rows values) y)
+unfoldable pub alphaMaxCall : Given → List Float → Outcome Float
+alphaMaxCall g buf = after (alphaMaxFault g buf) (alphaMax (designOf g) (g .targets))
 
 -- the buffer's first p places get X'y
-unfoldable pub alphaMaxLeft : Shape → List ℕ → List ℕ → List Float → List Float → List Float → List Float
-alphaMaxLeft s starts rows values y buf = left (alphaMaxFault s starts rows values y buf) (put buf 0 (dots (design s starts rows values) y)) buf
+unfoldable pub alphaMaxLeft : Given → List Float → List Float
+alphaMaxLeft g buf = left (alphaMaxFault g buf) (put buf 0 (dots (designOf g) (g .targets))) buf

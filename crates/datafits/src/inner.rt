@@ -1,11 +1,12 @@
 // What the public calls share: the tests of a room and of a list of features, and alpha_max over either layout.
 ghost use mathlib.Core.Path.{_≡_};
 ghost use Rattle.doubles.specs.Answer.{numberOf};
+ghost use Rattle.designs.specs.Given.{given};
 ghost use Rattle.datafits.specs.Calls as calls;
 use designs::Shape;
-use designs::Verdict;
 use designs::inner::admit;
 use doubles::Number;
+use doubles::Verdict;
 
 // Whether a buffer has 2p places. (2p itself may be more than a usize holds.)
 pub fn room_twice(p: usize, buf: &[f64]) -> bool
@@ -37,8 +38,9 @@ pub fn alpha_max(
     y: &[f64],
     xty: &mut [f64],
 ) -> Number
-    ensures { λ r. ⌜ (numberOf r ≡ calls.alphaMaxCall shape (now (starts .entry)) (now (rows .entry)) (now (values .entry)) (now (y .entry)) (now (xty .entry)))
-        × (now (xty .exit) ≡ calls.alphaMaxLeft shape (now (starts .entry)) (now (rows .entry)) (now (values .entry)) (now (y .entry)) (now (xty .entry))) ⌝ }
+    ensures { λ r. ⌜ (let g = given shape (now (starts .entry)) (now (rows .entry)) (now (values .entry)) (now (y .entry)) in
+        (numberOf r ≡ calls.alphaMaxCall g (now (xty .entry)))
+        × (now (xty .exit) ≡ calls.alphaMaxLeft g (now (xty .entry)))) ⌝ }
 {
     let fits = y.len() == shape.n;
     let room = shape.p <= xty.len();

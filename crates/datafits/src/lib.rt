@@ -1,18 +1,19 @@
 // The quadratic datafit over a design in either layout: the public calls. Each tests its input first and refuses with document 01's number
 // and place; refused, it changes no lent buffer. `prepared` is what the Rust's Quadratic holds: p Lipschitz constants, then the p entries of X'y.
+ghost use mathlib.Core.List.{[]};
 ghost use mathlib.Core.Path.{_≡_};
-ghost use Rattle.doubles.specs.Answer.{numberOf};
+ghost use Rattle.doubles.specs.Answer.{numberOf, verdictOf};
 ghost use Rattle.designs.specs.Design as def;
-ghost use Rattle.designs.specs.Checks.{verdictOf};
+ghost use Rattle.designs.specs.Given.{given};
 ghost use Rattle.datafits.specs.Calls as calls;
 use designs::Feature;
 use designs::Layout;
 use designs::Shape;
-use designs::Verdict;
 use designs::inner::admit;
 use designs::inner::both;
 use doubles::Number;
 use doubles::Refusal;
+use doubles::Verdict;
 
 pub mod inner;
 
@@ -25,8 +26,9 @@ pub fn initialize(
     y: &[f64],
     prepared: &mut [f64],
 ) -> Verdict
-    ensures { λ r. ⌜ (verdictOf r ≡ calls.initializeFault shape (now (starts .entry)) (now (rows .entry)) (now (values .entry)) (now (y .entry)) (now (prepared .entry)))
-        × (now (prepared .exit) ≡ calls.initialized shape (now (starts .entry)) (now (rows .entry)) (now (values .entry)) (now (y .entry)) (now (prepared .entry))) ⌝ }
+    ensures { λ r. ⌜ (let g = given shape (now (starts .entry)) (now (rows .entry)) (now (values .entry)) (now (y .entry)) in
+        (verdictOf r ≡ calls.initializeFault g (now (prepared .entry)))
+        × (now (prepared .exit) ≡ calls.initialized g (now (prepared .entry)))) ⌝ }
 {
     let fits = y.len() == shape.n;
     let room = inner::room_twice(shape.p, prepared);
@@ -49,7 +51,8 @@ pub fn gradient_j(
     fit: &[f64],
     feature: Feature,
 ) -> Number
-    ensures { λ r. ⌜ numberOf r ≡ calls.gradientCall shape (now (starts .entry)) (now (rows .entry)) (now (values .entry)) (now (prepared .entry)) (now (fit .entry)) (feature .0) ⌝ }
+    ensures { λ r. ⌜ (let g = given shape (now (starts .entry)) (now (rows .entry)) (now (values .entry)) [] in
+        numberOf r ≡ calls.gradientCall g (now (prepared .entry)) (now (fit .entry)) (feature .0)) ⌝ }
 {
     let fits = feature.0 < shape.p;
     let room = both(inner::room_twice(shape.p, prepared), shape.n <= fit.len());
@@ -77,8 +80,9 @@ pub fn full_grad(
     fit: &[f64],
     grad: &mut [f64],
 ) -> Verdict
-    ensures { λ r. ⌜ (verdictOf r ≡ calls.fullGradFault shape (now (starts .entry)) (now (rows .entry)) (now (values .entry)) (now (prepared .entry)) (now (fit .entry)) (now (grad .entry)))
-        × (now (grad .exit) ≡ calls.fullGrad shape (now (starts .entry)) (now (rows .entry)) (now (values .entry)) (now (prepared .entry)) (now (fit .entry)) (now (grad .entry))) ⌝ }
+    ensures { λ r. ⌜ (let g = given shape (now (starts .entry)) (now (rows .entry)) (now (values .entry)) [] in
+        (verdictOf r ≡ calls.fullGradFault g (now (prepared .entry)) (now (fit .entry)) (now (grad .entry)))
+        × (now (grad .exit) ≡ calls.fullGrad g (now (prepared .entry)) (now (fit .entry)) (now (grad .entry)))) ⌝ }
 {
     let buffers = both(shape.n <= fit.len(), shape.p <= grad.len());
     let room = both(inner::room_twice(shape.p, prepared), buffers);
@@ -130,8 +134,9 @@ pub fn update_model_fit(
     diff: f64,
     feature: Feature,
 ) -> Verdict
-    ensures { λ r. ⌜ (verdictOf r ≡ calls.updateFault shape (now (starts .entry)) (now (rows .entry)) (now (values .entry)) (now (fit .entry)) (feature .0))
-        × (now (fit .exit) ≡ calls.updated shape (now (starts .entry)) (now (rows .entry)) (now (values .entry)) (now (fit .entry)) diff (feature .0)) ⌝ }
+    ensures { λ r. ⌜ (let g = given shape (now (starts .entry)) (now (rows .entry)) (now (values .entry)) [] in
+        (verdictOf r ≡ calls.updateFault g (now (fit .entry)) (feature .0))
+        × (now (fit .exit) ≡ calls.updated g (now (fit .entry)) diff (feature .0))) ⌝ }
 {
     let fits = feature.0 < shape.p;
     let room = shape.n <= fit.len();
@@ -154,8 +159,9 @@ pub fn compute_extrapolated_fit(
     w: &[f64],
     fit: &mut [f64],
 ) -> Verdict
-    ensures { λ r. ⌜ (verdictOf r ≡ calls.extrapolatedFault shape (now (starts .entry)) (now (rows .entry)) (now (values .entry)) (now (ws .entry)) (now (w .entry)) (now (fit .entry)))
-        × (now (fit .exit) ≡ calls.extrapolatedFit shape (now (starts .entry)) (now (rows .entry)) (now (values .entry)) (now (ws .entry)) (now (w .entry)) (now (fit .entry))) ⌝ }
+    ensures { λ r. ⌜ (let g = given shape (now (starts .entry)) (now (rows .entry)) (now (values .entry)) [] in
+        (verdictOf r ≡ calls.extrapolatedFault g (now (ws .entry)) (now (w .entry)) (now (fit .entry)))
+        × (now (fit .exit) ≡ calls.extrapolatedFit g (now (ws .entry)) (now (w .entry)) (now (fit .entry)))) ⌝ }
 {
     let fits = both(ws.len() <= shape.p, inner::all_below(ws, shape.p));
     let room = both(shape.p <= w.len(), shape.n <= fit.len());
@@ -170,8 +176,9 @@ pub fn compute_extrapolated_fit(
 
 // The smallest alpha for which no weight of a dense design leaves zero; X'y is left in the first p places of a lent buffer.
 pub fn compute_alpha_max(n: usize, p: usize, values: &[f64], y: &[f64], xty: &mut [f64]) -> Number
-    ensures { λ r. ⌜ (numberOf r ≡ calls.alphaMaxCall (def.denseShape n p) def.nothing def.nothing (now (values .entry)) (now (y .entry)) (now (xty .entry)))
-        × (now (xty .exit) ≡ calls.alphaMaxLeft (def.denseShape n p) def.nothing def.nothing (now (values .entry)) (now (y .entry)) (now (xty .entry))) ⌝ }
+    ensures { λ r. ⌜ (let g = given (def.denseShape n p) def.nothing def.nothing (now (values .entry)) (now (y .entry)) in
+        (numberOf r ≡ calls.alphaMaxCall g (now (xty .entry)))
+        × (now (xty .exit) ≡ calls.alphaMaxLeft g (now (xty .entry)))) ⌝ }
 {
     let none = [0u32; 0];
     let shape = Shape {
@@ -192,8 +199,9 @@ pub fn compute_alpha_max_sparse(
     y: &[f64],
     xty: &mut [f64],
 ) -> Number
-    ensures { λ r. ⌜ (numberOf r ≡ calls.alphaMaxCall (def.cscShape n p) (now (starts .entry)) (now (rows .entry)) (now (values .entry)) (now (y .entry)) (now (xty .entry)))
-        × (now (xty .exit) ≡ calls.alphaMaxLeft (def.cscShape n p) (now (starts .entry)) (now (rows .entry)) (now (values .entry)) (now (y .entry)) (now (xty .entry))) ⌝ }
+    ensures { λ r. ⌜ (let g = given (def.cscShape n p) (now (starts .entry)) (now (rows .entry)) (now (values .entry)) (now (y .entry)) in
+        (numberOf r ≡ calls.alphaMaxCall g (now (xty .entry)))
+        × (now (xty .exit) ≡ calls.alphaMaxLeft g (now (xty .entry)))) ⌝ }
 {
     let shape = Shape {
         layout: Layout::Csc,

@@ -2,7 +2,8 @@
 use mathlib.Core.Path.{sym, _∙_}
 use borrow.Author.Tests.{leb-true}
 use Rattle.doubles.proofs.Laws.Choice.{and-both}
-use Rattle.designs.proofs.Laws.Passed.{admits, stop, stop-left, pass, pass-left}
+use Rattle.doubles.proofs.Laws.Verdict.{stop, stop-left, pass, pass-left}
+use Rattle.designs.proofs.Laws.Passed.{admits}
 use Rattle.datafits.proofs.Laws.Calls.{each-below}
 use Rattle.datafits.specs.Calls.{extrapolatedFault, extrapolatedFit}
 use borrow.Author.Needs.{needs}
@@ -34,7 +35,7 @@ compute-extrapolated-fit-requires : tie.Need-compute-extrapolated-fit-requires
 compute-extrapolated-fit-requires c κs =
     let at-both = c .before .before .before .before .before .before .before .before in
     let at-all-below = at-both .before in
-    let a = admits _ _ _ _ _ _ _ (sym (pass _ (c .before .before .before .admit .ensures) (c .before .enum-told .given .1))) in
+    let a = admits _ _ _ (sym (pass _ (c .before .before .before .admit .ensures) (c .before .enum-told .given .1))) in
     let q = and-both _ _ (sym (c .before .before .before .before .before .both2 .ensures) ∙ a .roomy) in
     let s = and-both _ _ (sym (at-both .both .ensures) ∙ a .fit) in
     (each-below _ _ (sym (at-all-below .all-below .ensures) ∙ s .1), a .whole, leb-true _ _ (q .0), leb-true _ _ (q .1))

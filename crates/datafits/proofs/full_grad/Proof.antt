@@ -2,7 +2,8 @@
 use mathlib.Core.Path.{sym, _∙_}
 use borrow.Author.Tests.{leb-true}
 use Rattle.doubles.proofs.Laws.Choice.{and-both}
-use Rattle.designs.proofs.Laws.Passed.{admits, stop, stop-left, pass, pass-left}
+use Rattle.doubles.proofs.Laws.Verdict.{stop, stop-left, pass, pass-left}
+use Rattle.designs.proofs.Laws.Passed.{admits}
 use Rattle.datafits.specs.Calls.{fullGradFault, fullGrad}
 use borrow.Author.Needs.{needs}
 use Rattle.datafits.proofs.full_grad.Statement.{statement}
@@ -31,7 +32,7 @@ enum-told c = search needs
 
 full-grad-requires : tie.Need-full-grad-requires
 full-grad-requires c κs =
-    let a = admits _ _ _ _ _ _ _ (sym (pass _ (c .before .before .before .admit .ensures) (c .before .enum-told .given .1))) in
+    let a = admits _ _ _ (sym (pass _ (c .before .before .before .admit .ensures) (c .before .enum-told .given .1))) in
     let q = and-both _ _ (sym (c .before .before .before .before .before .both2 .ensures) ∙ a .roomy) in
     let s = and-both _ _ (sym (c .before .before .before .before .before .before .before .both .ensures) ∙ q .1) in (
       a .sized .few,

@@ -2,7 +2,8 @@
 use mathlib.Core.Path.{sym, _∙_}
 use borrow.Author.Tests.{leb-true, ltb-true}
 use Rattle.doubles.proofs.Laws.Choice.{and-both}
-use Rattle.designs.proofs.Laws.Passed.{admits, stop-after, pass, pass-after}
+use Rattle.doubles.proofs.Laws.Verdict.{stop-after, pass, pass-after}
+use Rattle.designs.proofs.Laws.Passed.{admits}
 use Rattle.datafits.specs.Calls.{gradientFault, gradientCall}
 use borrow.Author.Needs.{needs}
 use Rattle.datafits.proofs.gradient_j.Statement.{statement}
@@ -28,7 +29,7 @@ enum-told c = search needs
 
 gradient-j-requires : tie.Need-gradient-j-requires
 gradient-j-requires c κs =
-    let a = admits _ _ _ _ _ _ _ (sym (pass _ (c .before .before .admit .ensures) (c .enum-told .given .1))) in
+    let a = admits _ _ _ (sym (pass _ (c .before .before .admit .ensures) (c .enum-told .given .1))) in
     let q = and-both _ _ (sym (c .before .before .before .before .both .ensures) ∙ a .roomy) in (
       ltb-true _ _ (a .fit),
       a .sized .few,

@@ -2,7 +2,8 @@
 use mathlib.Core.Path.{sym, _∙_}
 use native.Mathlib.Nat.{le-of-eq}
 use borrow.Author.Tests.{leb-true, eqb-true}
-use Rattle.designs.proofs.Laws.Passed.{admits, stop, stop-left, pass, pass-left}
+use Rattle.doubles.proofs.Laws.Verdict.{stop, stop-left, pass, pass-left}
+use Rattle.designs.proofs.Laws.Passed.{admits}
 use Rattle.datafits.specs.Calls.{initializeFault, initialized}
 use borrow.Author.Needs.{needs}
 use Rattle.datafits.proofs.initialize.Statement.{statement}
@@ -22,7 +23,7 @@ enum-told c = search needs
 
 initialize-requires : tie.Need-initialize-requires
 initialize-requires c κs =
-    let a = admits _ _ _ _ _ _ _ (sym (pass _ (c .before .before .before .admit .ensures) (c .before .enum-told .given .1))) in (
+    let a = admits _ _ _ (sym (pass _ (c .before .before .before .admit .ensures) (c .before .enum-told .given .1))) in (
       a .sized .few,
       leb-true _ _ (sym (c .before .before .before .before .room-twice .ensures) ∙ a .roomy),
       a .whole,

@@ -1,7 +1,8 @@
 -- `update_model_fit`: the tests, then the column. Assumes nothing.
 use mathlib.Core.Path.{sym}
 use borrow.Author.Tests.{leb-true, ltb-true}
-use Rattle.designs.proofs.Laws.Passed.{admits, stop, stop-left, pass, pass-left}
+use Rattle.doubles.proofs.Laws.Verdict.{stop, stop-left, pass, pass-left}
+use Rattle.designs.proofs.Laws.Passed.{admits}
 use Rattle.datafits.specs.Calls.{updateFault, updated}
 use borrow.Author.Needs.{needs}
 use Rattle.datafits.proofs.update_model_fit.Statement.{statement}
@@ -21,7 +22,7 @@ enum-told c = search needs
 
 column-update-requires : tie.Need-column-update-requires
 column-update-requires c κs =
-    let a = admits _ _ _ _ _ _ _ (sym (pass _ (c .before .before .before .admit .ensures) (c .before .enum-told .given .1))) in
+    let a = admits _ _ _ (sym (pass _ (c .before .before .before .admit .ensures) (c .before .enum-told .given .1))) in
     (ltb-true _ _ (a .fit), a .whole, leb-true _ _ (a .roomy))
 
 returns : tie.Need-returns

@@ -2,7 +2,7 @@
 use mathlib.Core.Path.{_∙_}
 use borrow.Author.Tests.{le-leb, lt-leb}
 use Rattle.doubles.specs.Num.{_and_}
-use Rattle.designs.proofs.Laws.Passed.{stop-after, pass-after}
+use Rattle.doubles.proofs.Laws.Verdict.{stop-after, pass-after}
 use Rattle.datafits.specs.Calls.{valueFault, valueCall}
 use borrow.Author.Needs.{needs}
 use Rattle.datafits.proofs.value.Statement.{statement}

@@ -2,7 +2,8 @@
 use mathlib.Core.Path.{sym}
 use native.Mathlib.Nat.{le-of-eq}
 use borrow.Author.Tests.{leb-true, eqb-true}
-use Rattle.designs.proofs.Laws.Passed.{admits, stop-after, stop-left, pass, pass-after, pass-left}
+use Rattle.doubles.proofs.Laws.Verdict.{stop-after, stop-left, pass, pass-after, pass-left}
+use Rattle.designs.proofs.Laws.Passed.{admits}
 use Rattle.datafits.specs.Calls.{alphaMaxFault, alphaMaxCall, alphaMaxLeft}
 use borrow.Author.Needs.{needs}
 use Rattle.datafits.proofs.inner.alpha_max.Statement.{statement}
@@ -19,7 +20,7 @@ enum-told c = search needs
 
 largest-of-requires : tie.Need-largest-of-requires
 largest-of-requires c κs =
-    let a = admits _ _ _ _ _ _ _ (sym (pass _ (c .before .before .before .admit .ensures) (c .before .enum-told .given .1))) in
+    let a = admits _ _ _ (sym (pass _ (c .before .before .before .admit .ensures) (c .before .enum-told .given .1))) in
     (a .sized .few, leb-true _ _ (a .roomy), a .whole, le-of-eq (sym (eqb-true _ _ (a .fit))))
 
 returns : tie.Need-returns
