@@ -10,10 +10,10 @@ use designs::Feature;
 use designs::Layout;
 use designs::Shape;
 use designs::inner::admit;
-use designs::inner::both;
 use doubles::Number;
 use doubles::Refusal;
 use doubles::Verdict;
+use doubles::inner::both;
 
 pub mod inner;
 

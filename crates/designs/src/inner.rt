@@ -3,33 +3,17 @@ ghost use mathlib.Core.Path.{_≡_};
 ghost use mathlib.Core.Bool.{true};
 ghost use Prim.Native.Nat.{_+_, _<_, _≤_};
 ghost use lib.ListN.{length, getD};
-ghost use Rattle.doubles.specs.Num as num;
-ghost use Rattle.doubles.specs.Answer.{refused as refused', verdictOf};
+ghost use Rattle.doubles.specs.Answer.{verdictOf};
 ghost use Rattle.designs.specs.Given.{given};
 ghost use Rattle.designs.specs.Checks as checks';
 ghost use Rattle.designs.specs.Sound.{Rising};
 use crate::Found;
 use crate::Layout;
 use crate::Shape;
-use doubles::Refusal;
 use doubles::Verdict;
+use doubles::inner::both;
+use doubles::inner::refused;
 use doubles::is_finite;
-
-// a and b, as values: a test that a caller made is not known any more behind `&&`.
-pub fn both(a: bool, b: bool) -> bool
-    ensures { λ r. ⌜ r ≡ num._and_ a b ⌝ }
-{
-    if a { b } else { false }
-}
-
-pub fn refused(number: u32, place: usize) -> Verdict
-    ensures { λ r. ⌜ verdictOf r ≡ refused' number place ⌝ }
-{
-    Verdict::Refused(Refusal {
-        number: number,
-        place: place,
-    })
-}
 
 // ---- 1
 

@@ -4,6 +4,8 @@ ghost use mathlib.Core.Path.{_≡_};
 ghost use lib.Ieee.{binary64, ofBits};
 ghost use Rattle.doubles.specs.Num as num;
 
+pub mod inner;
+
 // A refusal: document 01's number and place.
 pub struct Refusal {
     pub number: u32,

@@ -11,9 +11,9 @@ use columns::column_dot;
 use columns::column_update;
 use designs::Feature;
 use designs::Verdict;
-use designs::inner::both;
 use designs::inner::sizes_agree;
 use doubles::Refusal;
+use doubles::inner::both;
 
 // 1 and 3, where the list that the column meets has so many places.
 fn admit_column(n: usize, p: usize, values: &[f64], column: usize, places: usize) -> Verdict

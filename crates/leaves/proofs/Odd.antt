@@ -18,7 +18,9 @@ use Rattle.doubles.proofs.Laws.Order.{neg-lt, nonzero-of, at-least-zero, not-be
 use Rattle.doubles.proofs.Laws.Below.{mul-not-below, product-number}
 use Rattle.doubles.proofs.Laws.Signs.{zero-turned, turned-scaled, turned-times, signum-turned, sum-same, signs-at, signs-length}
 use Rattle.leaves.specs.Soft.{soft}
-use Rattle.leaves.specs.Penalty.{alphaLegal, ratioLegal, gammaLegal, legal, sumAbs, sumSquares, mcpOf, sumMcp, value, proxL1, proxL1PlusL2, proxMcp, prox, excess, violationL1, violationL1PlusL2, violationMcp, violation}
+use Rattle.doubles.specs.Answer.{none}
+use Rattle.doubles.proofs.Laws.Verdict.{spared}
+use Rattle.leaves.specs.Penalty.{alphaLegal, ratioLegal, gammaLegal, alphaOf, secondLegal, penaltyFault, sumAbs, sumSquares, mcpOf, sumMcp, value, proxL1, proxL1PlusL2, proxMcp, prox, excess, violationL1, violationL1PlusL2, violationMcp, violation}
 use Rattle.leaves.specs.Odd.{Odd}
 use Rattle.leaves.specs.declared.penalties.separable.Penalty.{Penalty}
 use Rattle.leaves.specs.declared.penalties.separable.Penalty.the-variants.{L1, L1PlusL2, MCP}
@@ -171,20 +173,34 @@ module _ {s : ℕ → Bool} {w w' : List Float} (p : Signs s w w') where
   same-mcp alpha gamma = term (mcpOf alpha gamma) (λ t x y q. same-mcp-of alpha gamma q)
 
 -- ---- together
-pub odd : (p : Penalty) → legal p ≡ true → Odd p
-unfolding legal prox violation value
+-- what a penalty says that has no fault
+pub alpha-legal : (p : Penalty) → penaltyFault p ≡ none → alphaLegal (alphaOf p) ≡ true
+unfolding penaltyFault
+alpha-legal p h = spared (alphaLegal (alphaOf p)) 2 _ h .0
+
+second-legal : (p : Penalty) → penaltyFault p ≡ none → secondLegal p ≡ true
+unfolding penaltyFault
+second-legal p h = spared (secondLegal p) 2 none (spared (alphaLegal (alphaOf p)) 2 _ h .1) .0
+
+ratio-legal : (alpha r : Float) → penaltyFault (L1PlusL2 alpha r) ≡ none → ratioLegal r ≡ true
+unfolding secondLegal
+ratio-legal alpha r h = second-legal (L1PlusL2 alpha r) h
+
+pub odd : (p : Penalty) → penaltyFault p ≡ none → Odd p
+unfolding prox violation value
 odd (L1 alpha) h = record {
-  prox = λ step f n p. l1-prox alpha step (alpha-not-below alpha h) n p;
+  prox = λ step f n p. l1-prox alpha step (alpha-not-below alpha (alpha-legal (L1 alpha) h)) n p;
   violation = λ p q. l1-violation p q alpha;
   value = λ p. ap (λ (x : Float). alpha ⊗ x) (same-abs p);
 }
 odd (L1PlusL2 alpha r) h = record {
-  prox = λ step f n p. net-prox alpha r step (alpha-not-below alpha (and-both (alphaLegal alpha) (ratioLegal r) h .0)) (ratio-not-below r (and-both (alphaLegal alpha) (ratioLegal r) h .1)) n p;
+  prox = λ step f n p.
+      net-prox alpha r step (alpha-not-below alpha (alpha-legal (L1PlusL2 alpha r) h)) (ratio-not-below r (ratio-legal alpha r h)) n p;
   violation = λ p q. net-violation p q alpha r;
   value = λ p. rw (same-abs p, same-squares p);
 }
 odd (MCP alpha gamma) h = record {
-  prox = λ step f n p. mcp-prox alpha gamma step (threshold alpha step (and-both (alphaLegal alpha) (gammaLegal gamma) h .0) f n) p;
+  prox = λ step f n p. mcp-prox alpha gamma step (threshold alpha step (alpha-legal (MCP alpha gamma) h) f n) p;
   violation = λ p q. mcp-violation p q alpha gamma;
   value = λ p. same-mcp p alpha gamma;
 }

@@ -1,12 +1,12 @@
 -- "A penalty is one of three, each with its own numbers": value, prox and violation, in document 01's order of rounded operations.
-use mathlib.Core.Bool.{Bool}
+use mathlib.Core.Bool.{Bool, true}
 use mathlib.Core.List.{List}
-use lib.Dec.{ltb}
+use lib.Dec.{leb}
 use lib.ListN.{length}
 use lib.Ieee.{Float, neg, lt, le, eq}
-use Rattle.doubles.specs.Num.{_⊕_, _⊖_, _⊗_, _⊘_, #0, #½, #1, #2, at, pick, _and_, _or_, abs, signum, finite}
+use Rattle.doubles.specs.Num.{_⊕_, _⊖_, _⊗_, _⊘_, #0, #½, #1, #2, at, pick, _and_, abs, signum, finite}
 use Rattle.doubles.specs.Steps.{sum}
-use Rattle.doubles.specs.Answer.{Outcome, refused, answered}
+use Rattle.doubles.specs.Answer.{Outcome, Fault, none, unless, after}
 use Rattle.leaves.specs.Soft.{soft}
 use Rattle.leaves.specs.declared.penalties.separable.Penalty.{Penalty}
 use Rattle.leaves.specs.declared.penalties.separable.Penalty.the-variants.{L1, L1PlusL2, MCP}
@@ -24,10 +24,23 @@ ratioLegal r = le #0 r and le r #1
 unfoldable pub gammaLegal : Float → Bool
 gammaLegal gamma = finite gamma and lt #0 gamma
 
-unfoldable pub legal : Penalty → Bool
-legal (L1 alpha) = alphaLegal alpha
-legal (L1PlusL2 alpha r) = alphaLegal alpha and ratioLegal r
-legal (MCP alpha gamma) = alphaLegal alpha and gammaLegal gamma
+abbrev pub alphaOf : Penalty → Float
+alphaOf (L1 alpha) = alpha
+alphaOf (L1PlusL2 alpha r) = alpha
+alphaOf (MCP alpha gamma) = alpha
+
+-- L1 has no second number
+unfoldable pub secondLegal : Penalty → Bool
+secondLegal (L1 alpha) = true
+secondLegal (L1PlusL2 alpha r) = ratioLegal r
+secondLegal (MCP alpha gamma) = gammaLegal gamma
+
+-- 2: alpha is tested first, then the second number
+unfoldable pub penaltyFault : Penalty → Fault
+penaltyFault p =
+    unless (alphaLegal (alphaOf p)) 2
+    (unless (secondLegal p) 2
+    none)
 
 -- ---- value
 -- Σ|w|, features upward
@@ -101,9 +114,9 @@ violation (MCP alpha gamma) w g = violationMcp alpha gamma w g
 -- 1 where the length is outside p's limits, then 2 where a number is outside its range
 unfoldable pub valueCall : Penalty → List Float → Outcome Float
 valueCall p w =
-    pick (ltb (length w) 1 or ltb 8192 (length w)) (refused 1 0)
-    (pick (legal p) (answered (value p w)) (refused 2 0))
+    unless (leb 1 (length w) and leb (length w) 8192) 1
+    (after (penaltyFault p) (value p w))
 
 -- 2 where a number is outside its range
 unfoldable pub violationCall : Penalty → Float → Float → Outcome Float
-violationCall p w g = pick (legal p) (answered (violation p w g)) (refused 2 0)
+violationCall p w g = after (penaltyFault p) (violation p w g)

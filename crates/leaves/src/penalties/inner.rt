@@ -1,8 +1,11 @@
 // What the solver calls of a penalty: each answers on every double, and refuses nothing.
 ghost use mathlib.Core.Path.{_≡_};
+ghost use Rattle.doubles.specs.Answer.{verdictOf};
 ghost use Rattle.leaves.specs.Penalty as pen;
 use crate::penalties::separable::Penalty;
+use doubles::Verdict;
 use doubles::abs;
+use doubles::inner::refused;
 use doubles::is_finite;
 use doubles::signum;
 
@@ -28,27 +31,38 @@ fn gamma_in_range(gamma: f64) -> bool
     if is_finite(gamma) { 0.0 < gamma } else { false }
 }
 
-// Whether every number of the penalty is in its range.
-pub fn in_range(p: Penalty) -> bool
-    ensures { λ r. ⌜ r ≡ pen.legal p ⌝ }
+// The second number; L1 has none.
+fn second_in_range(p: Penalty) -> bool
+    ensures { λ r. ⌜ r ≡ pen.secondLegal p ⌝ }
 {
     match p {
-        Penalty::L1 { alpha } => alpha_in_range(alpha),
-        Penalty::L1PlusL2 { alpha, l1_ratio } => {
-            if alpha_in_range(alpha) {
-                ratio_in_range(l1_ratio)
-            } else {
-                false
-            }
-        }
-        Penalty::MCP { alpha, gamma } => {
-            if alpha_in_range(alpha) {
-                gamma_in_range(gamma)
-            } else {
-                false
-            }
-        }
+        Penalty::L1 { alpha: _ } => true,
+        Penalty::L1PlusL2 { alpha: _, l1_ratio } => ratio_in_range(l1_ratio),
+        Penalty::MCP { alpha: _, gamma } => gamma_in_range(gamma),
     }
+}
+
+fn alpha_of(p: Penalty) -> f64
+    ensures { λ r. ⌜ r ≡ pen.alphaOf p ⌝ }
+{
+    match p {
+        Penalty::L1 { alpha } => alpha,
+        Penalty::L1PlusL2 { alpha, l1_ratio: _ } => alpha,
+        Penalty::MCP { alpha, gamma: _ } => alpha,
+    }
+}
+
+// 2, where a number of the penalty is outside its range: alpha first.
+pub fn check_range(p: Penalty) -> Verdict
+    ensures { λ r. ⌜ verdictOf r ≡ pen.penaltyFault p ⌝ }
+{
+    if alpha_in_range(alpha_of(p)) {} else {
+        return refused(2, 0);
+    }
+    if second_in_range(p) {} else {
+        return refused(2, 0);
+    }
+    Verdict::Fine
 }
 
 // ---- value

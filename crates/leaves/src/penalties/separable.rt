@@ -6,6 +6,7 @@ use crate::penalties::inner;
 use crate::utils::prox_funcs::soft_thresholding;
 use doubles::Number;
 use doubles::Refusal;
+use doubles::Verdict;
 use doubles::abs;
 use doubles::signum;
 
@@ -15,12 +16,12 @@ pub enum Penalty {
     MCP { alpha: f64, gamma: f64 },
 }
 
-// A refusal whose place is 0.
-fn refused(number: u32) -> Number
-    ensures { λ r. ⌜ answer.numberOf r ≡ answer.refused number 0 ⌝ }
+// 1, of place 0.
+fn refused_length() -> Number
+    ensures { λ r. ⌜ answer.numberOf r ≡ answer.refused 1 0 ⌝ }
 {
     Number::Refused(Refusal {
-        number: number,
+        number: 1,
         place: 0,
     })
 }
@@ -31,15 +32,14 @@ pub fn value(p: Penalty, w: &[f64]) -> Number
 {
     let n = w.len();
     if n < 1 {
-        return refused(1);
+        return refused_length();
     }
     if 8192 < n {
-        return refused(1);
+        return refused_length();
     }
-    if inner::in_range(p) {
-        Number::Is(inner::value(p, w))
-    } else {
-        refused(2)
+    match inner::check_range(p) {
+        Verdict::Refused(r) => Number::Refused(r),
+        Verdict::Fine => Number::Is(inner::value(p, w)),
     }
 }
 
@@ -86,9 +86,8 @@ pub fn prox(p: Penalty, v: f64, step: f64) -> f64
 pub fn subdiff_distance(p: Penalty, w: f64, grad: f64) -> Number
     ensures { λ r. ⌜ answer.numberOf r ≡ pen.violationCall p w grad ⌝ }
 {
-    if inner::in_range(p) {
-        Number::Is(inner::violation(p, w, grad))
-    } else {
-        refused(2)
+    match inner::check_range(p) {
+        Verdict::Refused(r) => Number::Refused(r),
+        Verdict::Fine => Number::Is(inner::violation(p, w, grad)),
     }
 }

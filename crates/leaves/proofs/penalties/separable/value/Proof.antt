@@ -1,66 +1,65 @@
 -- `value`: the length, then the numbers, then the inner function. Assumes nothing.
 use mathlib.Core.Path.{_∙_}
-use borrow.Author.Tests.{lt-ltb, le-ltb}
-use Rattle.doubles.specs.Num.{_or_}
+use borrow.Author.Tests.{lt-leb, le-leb}
+use Rattle.doubles.specs.Num.{_and_}
+use Rattle.doubles.proofs.Laws.Verdict.{stop-after, pass-after}
 use Rattle.leaves.specs.Penalty.{valueCall}
 use borrow.Author.Needs.{needs}
 use Rattle.leaves.proofs.penalties.separable.value.Statement.{statement}
 use Rattle.leaves.proofs.penalties.separable.value.Tie as tie
 
-refused-requires : tie.Need-refused-requires
-refused-requires c κs = search needs
+refused-length-requires : tie.Need-refused-length-requires
+refused-length-requires c κs = search needs
 
 returns : tie.Need-returns
-unfolding valueCall _or_
-returns c = c .refused .ensures ∙ rw (lt-ltb _ _ (c .before .if1 .taken))
+unfolding valueCall _and_
+returns c = c .refused-length .ensures ∙ rw (lt-leb _ _ (c .before .if1 .taken))
 
-refused-requires-2 : tie.Need-refused-requires-2
-refused-requires-2 c κs = search needs
+refused-length-requires-2 : tie.Need-refused-length-requires-2
+refused-length-requires-2 c κs = search needs
 
 returns-2 : tie.Need-returns-2
-unfolding valueCall _or_
-returns-2 c = c .refused2 .ensures ∙ rw (le-ltb _ _ (c .before .before .if1 .left), lt-ltb _ _ (c .before .if2 .taken))
+unfolding valueCall _and_
+returns-2 c =
+    c .refused-length2 .ensures ∙ rw (le-leb _ _ (c .before .before .if1 .left), lt-leb _ _ (c .before .if2 .taken))
 
-in-range-requires : tie.Need-in-range-requires
-in-range-requires c κs = search needs
+check-range-requires : tie.Need-check-range-requires
+check-range-requires c κs = search needs
+
+enum-known-r : tie.Need-enum-known-r
+enum-known-r c = search needs
+
+enum-told : tie.Need-enum-told
+enum-told c = search needs
 
 value-requires : tie.Need-value-requires
 value-requires c κs = search needs
 
-refused-requires-3 : tie.Need-refused-requires-3
-refused-requires-3 c κs = search needs
-
 returns-3 : tie.Need-returns-3
-unfolding valueCall _or_
+unfolding valueCall _and_
 returns-3 c =
-    rw (
-      le-ltb _ _ (c .before .before .before .before .if1 .left),
-      le-ltb _ _ (c .before .before .before .if2 .left),
-      ← c .before .before .in-range .ensures,
-      c .before .if3 .taken,
-      c .value .ensures,
-    )
+    let at-range = c .before .before .before in
+    rw (le-leb _ _ (at-range .before .before .if1 .left), le-leb _ _ (at-range .before .if2 .left))
+    (stop-after _ (at-range .check-range .ensures) _ _ (c .before .r .given .1))
 
 returns-4 : tie.Need-returns-4
-unfolding valueCall _or_
+unfolding valueCall _and_
 returns-4 c =
-    c .refused3 .ensures ∙ rw (
-      le-ltb _ _ (c .before .before .before .before .if1 .left),
-      le-ltb _ _ (c .before .before .before .if2 .left),
-      ← c .before .before .in-range .ensures,
-      c .before .if3 .left,
-    )
+    let at-range = c .before .before .before in
+    rw (le-leb _ _ (at-range .before .before .if1 .left), le-leb _ _ (at-range .before .if2 .left))
+    (pass-after _ (at-range .check-range .ensures) _ _ (c .before .enum-told .given .1) (c .value .ensures))
 
 pub value-spec : {M : Type 1} → statement M
 value-spec =
     tie.close
     (tie.spec
-    refused-requires
+    refused-length-requires
     returns
-    refused-requires-2
+    refused-length-requires-2
     returns-2
-    in-range-requires
+    check-range-requires
+    enum-known-r
+    enum-told
     value-requires
-    refused-requires-3
     returns-3
     returns-4)

@@ -1,7 +1,7 @@
 -- `both` goes by its first test. Assumes nothing.
 use Rattle.doubles.specs.Num.{_and_}
-use Rattle.designs.proofs.inner.both.Statement.{statement}
-use Rattle.designs.proofs.inner.both.Tie as tie
+use Rattle.doubles.proofs.inner.both.Statement.{statement}
+use Rattle.doubles.proofs.inner.both.Tie as tie
 
 returns : tie.Need-returns
 unfolding _and_
