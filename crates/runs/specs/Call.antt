@@ -3,16 +3,17 @@
 use mathlib.Core.Bool.{Bool, true}
 use mathlib.Core.List.{List}
 use Prim.Native.Nat.{ℕ, _+_, _*_}
-use lib.Dec.{leb, eqb}
+use lib.Dec.{leb}
 use lib.ListN.{length}
 use lib.Ieee.{Float, eq, le}
 use Rattle.doubles.specs.Num.{_⊘_, #0, #1, at, finite, pick, _and_, _or_}
 use Rattle.doubles.specs.Steps.{all, tab, Stage, going, stopped, bad}
 use Rattle.doubles.specs.Buffer.{put}
-use Rattle.doubles.specs.Answer.{Outcome, refused, answered}
-use Rattle.leaves.specs.Penalty.{alphaLegal, legal}
-use Rattle.designs.specs.Design.{design, prepared}
-use Rattle.designs.specs.Checks.{Fault, none, fault, unless, sizes, admitted}
+use Rattle.doubles.specs.Answer.{Outcome, refused, answered, Fault, unless, _then_}
+use Rattle.leaves.specs.Penalty.{alphaLegal, penaltyFault}
+use Rattle.designs.specs.Design.{prepared}
+use Rattle.designs.specs.Given.{Given, designOf}
+use Rattle.designs.specs.Checks.{sizes, sizedFault, targetsFit}
 use Rattle.designs.specs.declared.Shape.{Shape}
 use Rattle.runs.specs.Epoch.{Task, task, constant}
 use Rattle.runs.specs.Run.{State, run}
@@ -23,13 +24,21 @@ use Rattle.runs.specs.declared.Fit.the-variants as Fit
 
 -- ---- 2: "Outer iterations 0 to 1,000; epochs 0 to 100,000; start size 1 to 8,192 ..; Depth K is 1 to 10 when extrapolation is on and ignored when off.
 -- Tolerance and alpha are finite and at least 0"
+unfoldable pub startLegal : Settings → Bool
+startLegal S = leb 1 (S .start) and leb (S .start) 8192
+
 unfoldable pub depthLegal : Settings → Bool
 depthLegal S = pick (S .extrapolate) (leb 1 (S .depth) and leb (S .depth) 10) true
 
-unfoldable pub settingsLegal : Settings → Bool
-settingsLegal S =
-    leb (S .iterations) 1000 and leb (S .epochs) 100000 and leb 1 (S .start) and leb (S .start) 8192 and depthLegal S
-    and alphaLegal (S .tolerance) and legal (S .penalty)
+-- one setting after the other: iterations, epochs, start, depth, tolerance, then the penalty's alpha and its second number
+unfoldable pub settingsFault : Settings → Fault
+settingsFault S =
+    unless (leb (S .iterations) 1000) 2
+    (unless (leb (S .epochs) 100000) 2
+    (unless (startLegal S) 2
+    (unless (depthLegal S) 2
+    (unless (alphaLegal (S .tolerance)) 2
+    (penaltyFault (S .penalty))))))
 
 -- ---- 3: "p weights, n fit entries, p indices, and float scratch 3p, or (2K+5)·p + n with extrapolation"
 unfoldable pub scratchRoom : Shape → Settings → ℕ
@@ -42,16 +51,31 @@ pub record Lent : Type 0 where
   pub indices : List ℕ
   pub scratch : List Float
 
+abbrev pub lent : List Float → List Float → List ℕ → List Float → Lent
+lent w fit indices scratch = record { weights = w; fit = fit; indices = indices; scratch = scratch }
+
 unfoldable pub roomy : Shape → Settings → Lent → Bool
 roomy s S b =
     leb (s .p) (length (b .weights)) and leb (s .n) (length (b .fit)) and leb (s .p) (length (b .indices)) and leb (scratchRoom s S) (length (b .scratch))
 
 -- 1, then the settings' 2, then 3 to 6
-unfoldable pub fitFault : Shape → List ℕ → List ℕ → List Float → List Float → Settings → Lent → Fault
-fitFault s starts rows values y S b =
-    unless (sizes s starts rows values and eqb (length y) (s .n)) 1
-    (unless (settingsLegal S) 2
-    (admitted s starts rows values y (eqb (length y) (s .n)) (roomy s S b)))
+unfoldable pub fitFault : Given → Settings → Lent → Fault
+fitFault g S b =
+    unless (sizes (g .shape) (g .starts) (g .rows) (g .values) and targetsFit g) 1
+    (settingsFault S then sizedFault g (roomy (g .shape) S b))
+
+-- ---- how a call ends
+-- refused before its run, and no lent buffer is touched; given up in its run; or done
+pub data Ending : Type 0 where
+  untouched : (number place : ℕ) → Ending
+  givenUp : (number place : ℕ) → Ending
+  done : State → Ending
+
+-- a run that broke off has met a number that is not finite: 7. None still goes on behind its last turn (proofs/Laws/Ends: run-over)
+abbrev pub concluded : Stage State → Ending
+concluded (stopped s) = done s
+concluded (going s) = givenUp 7 0
+concluded bad = givenUp 7 0
 
 -- ---- 7 "for all columns first": "a Lipschitz constant, the inverse of a nonzero one, X'y entry"
 unfoldable pub usable : Float → Float → Bool
@@ -61,12 +85,24 @@ usable constant xty = finite constant and (eq constant #0 or finite (#1 ⊘ cons
 abbrev pub usableAt : Task → ℕ → Bool
 usableAt T j = usable (constant T j) (at (T .prepared) (T .p + j))
 
-unfoldable pub solved : Task → List Float → Settings → Stage State
-solved T y S = pick (all (usableAt T) (T .p)) (run T y S) bad
+unfoldable pub solved : Task → List Float → Settings → Ending
+solved T y S = pick (all (usableAt T) (T .p)) (concluded (run T y S)) (givenUp 7 0)
 
 -- a preparation, and a solve that uses it
-unfoldable pub fitted : Shape → List ℕ → List ℕ → List Float → List Float → Settings → Stage State
-fitted s starts rows values y S = solved (task s starts rows values (S .penalty) (prepared (design s starts rows values) y)) y S
+abbrev pub taskOf : Given → Settings → Task
+taskOf g S = task (g .shape) (g .starts) (g .rows) (g .values) (S .penalty) (prepared (designOf g) (g .targets))
+
+unfoldable pub fitted : Given → Settings → Ending
+fitted g S = solved (taskOf g S) (g .targets) S
+
+-- what the tests refuse is not run
+abbrev pub behind : Fault → Ending → Ending
+behind (answered u) e = e
+behind (refused number place) e = untouched number place
+
+-- the whole call
+unfoldable pub fitEnding : Given → Settings → Lent → Ending
+fitEnding g S b = behind (fitFault g S b) (fitted g S)
 
 -- ---- the answer
 -- "Status is 1 (met) if violation ≤ tolerance, else 2 (spent)"
@@ -84,40 +120,31 @@ abbrev pub fitOf : Fit → Outcome Report
 fitOf (Fit.Refused r) = refused (r .number) (r .place)
 fitOf (Fit.Done r) = answered r
 
-abbrev pub ended : Settings → Stage State → Outcome Report
-ended S (stopped s) = answered (reportOf S s)
-ended S (going s) = refused 7 0
-ended S bad = refused 7 0
-
-abbrev pub answer : Fault → Settings → Stage State → Outcome Report
-answer none S r = ended S r
-answer (fault number place) S r = refused number place
+abbrev pub answer : Settings → Ending → Outcome Report
+answer S (untouched number place) = refused number place
+answer S (givenUp number place) = refused number place
+answer S (done s) = answered (reportOf S s)
 
 -- ---- the buffers
 abbrev pub zeros : ℕ → List Float
 zeros n = tab (λ i. #0) n
 
-abbrev pub weightsOf : ℕ → Stage State → List Float
-weightsOf p (stopped s) = s .inner .point .weights
-weightsOf p (going s) = zeros p
-weightsOf p bad = zeros p
-
-abbrev pub fitEntries : ℕ → Stage State → List Float
-fitEntries n (stopped s) = s .inner .point .fit
-fitEntries n (going s) = zeros n
-fitEntries n bad = zeros n
-
-abbrev pub buffers : Fault → Shape → Settings → Stage State → Lent → Lent
-buffers none s S r b = record {
-  weights = put (b .weights) 0 (weightsOf (s .p) r);
-  fit = put (b .fit) 0 (fitEntries (s .n) r);
+-- their room as a run leaves it that was begun: weights and fit, then indices and scratch at zero
+abbrev pub filled : Shape → Settings → Lent → List Float → List Float → Lent
+filled s S b w fit = record {
+  weights = put (b .weights) 0 w;
+  fit = put (b .fit) 0 fit;
   indices = put (b .indices) 0 (tab (λ j. 0) (s .p));
   scratch = put (b .scratch) 0 (zeros (scratchRoom s S));
 }
-buffers (fault number place) s S r b = b
 
-unfoldable pub fitCall : Shape → List ℕ → List ℕ → List Float → List Float → Settings → Lent → Outcome Report
-fitCall s starts rows values y S b = answer (fitFault s starts rows values y S b) S (fitted s starts rows values y S)
+abbrev pub buffers : Shape → Settings → Lent → Ending → Lent
+buffers s S b (untouched number place) = b
+buffers s S b (givenUp number place) = filled s S b (zeros (s .p)) (zeros (s .n))
+buffers s S b (done q) = filled s S b (q .inner .point .weights) (q .inner .point .fit)
 
-unfoldable pub fitLeft : Shape → List ℕ → List ℕ → List Float → List Float → Settings → Lent → Lent
-fitLeft s starts rows values y S b = buffers (fitFault s starts rows values y S b) s S (fitted s starts rows values y S) b
+unfoldable pub fitCall : Given → Settings → Lent → Outcome Report
+fitCall g S b = answer S (fitEnding g S b)
+
+unfoldable pub fitLeft : Given → Settings → Lent → Lent
+fitLeft g S b = buffers (g .shape) S b (fitEnding g S b)

@@ -13,9 +13,9 @@ use lib.ListN.{length, getD}
 use lib.Ieee.{Float}
 use Rattle.doubles.specs.Num.{_and_}
 use Rattle.doubles.proofs.Laws.Choice.{and-both}
-use Rattle.doubles.proofs.Laws.Ends.{or-fails, neither-holds}
+use Rattle.doubles.proofs.Laws.Ends.{or-fails, neither-holds, refused≢answered}
 use Rattle.doubles.specs.Answer.{Fault, none}
-use Rattle.doubles.proofs.Laws.Verdict.{answers-not-refused, spared}
+use Rattle.doubles.proofs.Laws.Verdict.{spared}
 use Rattle.designs.specs.Search.{mark}
 use Rattle.designs.proofs.Laws.Search.{unmarked, first-none, none-first}
 use Rattle.designs.proofs.Laws.Layouts.{row-below}
@@ -158,7 +158,7 @@ module _ (n p : ℕ) (starts rows : List ℕ) (b : badRows n p starts rows ≡ N
 -- ---- all of them together
 untold : (number : ℕ) (f : Found) (g : Fault) → told number f g ≡ none → (f ≡ Nowhere) × (g ≡ none)
 untold number Nowhere g e = (refl, e)
-untold number (At k) g e = answers-not-refused number k tt e
+untold number (At k) g e = absurd (refused≢answered e)
 
 pub rising-rows : (p m r : ℕ) (starts : List ℕ) (a : Found) → length starts ≡ p + 1 → r ≡ m → a ≡ badStarts starts m → a ≡ Nowhere → Rising p r starts
 rising-rows p m r starts a hs hr ea ha = rw hr (rises p m starts hs (sym ea ∙ ha))

@@ -2,23 +2,20 @@
 use mathlib.Core.Path.{_≡_, refl, sym, ap, _∙_}
 use mathlib.Core.Bool.{Bool, true, false, false≢true}
 use Prim.Native.Nat.{ℕ, _≤_}
-use native.Mathlib.Omega.{arith}
 use Rattle.doubles.specs.Answer.{Outcome, refused, answered, Fault, none, verdictOf, unless, _then_, after, left, passes}
 use Rattle.doubles.specs.declared.Refusal.{Refusal}
 use Rattle.doubles.specs.declared.Verdict.{Verdict}
 use Rattle.doubles.specs.declared.Verdict.the-variants as Verdict
+use Rattle.doubles.proofs.Laws.Ends.{refused≢answered}
 
 -- ---- a chain of tests that found nothing
-pub answers-not-refused : {A : Type 0} {B : Type 0} (number place : ℕ) (a : A) → _≡_ {A = Outcome A} (refused number place) (answered a) → B
-answers-not-refused number place a e = absurd (let z : _≡_ {A = ℕ} 0 1 = cc in omega arith)
-
 pub spared : (b : Bool) (number : ℕ) (f : Fault) → unless b number f ≡ none → (b ≡ true) × (f ≡ none)
 spared true number f e = (refl, e)
-spared false number f e = answers-not-refused number 0 tt e
+spared false number f e = absurd (refused≢answered e)
 
 pub then-none : (f g : Fault) → (f then g) ≡ none → (f ≡ none) × (g ≡ none)
 then-none (answered u) g e = (refl, e)
-then-none (refused number place) g e = answers-not-refused number place tt e
+then-none (refused number place) g e = absurd (refused≢answered e)
 
 pub passes-none : (f : Fault) → passes f ≡ true → f ≡ none
 passes-none (answered u) e = refl
@@ -49,7 +46,7 @@ pub record AtMost (m : ℕ) (f : Fault) : Type 0 where
   pub most : (number place : ℕ) → f ≡ refused number place → number ≤ m
 
 pub none-most : (m : ℕ) → AtMost m none
-none-most m = record { most = λ number place e. answers-not-refused number place tt (sym e) }
+none-most m = record { most = λ number place e. absurd (refused≢answered (sym e)) }
 
 pub refused-most : {m number : ℕ} → number ≤ m → (place : ℕ) → AtMost m (refused number place)
 refused-most {m} {number} h place = record { most = λ n i e. (let q : number ≡ n = cc in rw (← q) h) }

@@ -1,17 +1,22 @@
--- The last turn ends a run: it is stopped, or broken off, and never going on. Assumes nothing.
-use mathlib.Core.Path.{_≡_, refl}
-use mathlib.Core.Bool.{Bool, true, false}
+-- The last turn ends a run: it is stopped, or broken off, and never going on; and what that says of a solve. Assumes nothing.
+use mathlib.Core.Path.{_≡_, refl, sym}
+use mathlib.Core.Bool.{Bool, true, false, false≢true}
+use mathlib.Core.Logic.{_⊎_, inl, inr}
 use mathlib.Core.List.{List}
 use Prim.Native.Nat.{ℕ, _+_}
 use native.Mathlib.Numerals.{add-one}
+use native.Mathlib.Omega.{arith}
 use borrow.Author.Tests.{eq-eqb}
 use lib.Ieee.{Float, le}
 use Rattle.doubles.specs.Num.{pick, _or_}
 use Rattle.doubles.specs.Steps.{steps, all, Stage, going, stopped, bad, next, upto, over}
 use Rattle.runs.specs.Epoch.{Task, allKnown, worst}
 use Rattle.runs.specs.Run.{State, ends, turn, start, run}
-use Rattle.runs.specs.Call.{usableAt, solved}
+use Rattle.runs.specs.Call.{givenUp, done, concluded, usableAt, solved}
 use Rattle.runs.specs.declared.Settings.{Settings}
+
+pub givenUp≢done : {number place : ℕ} {s : State} → givenUp number place ≡ done s → ⊥
+givenUp≢done e = let n : _≡_ {A = ℕ} 0 1 = cc in omega arith
 
 last : (f : ℕ → State → Stage State) (n : ℕ) (a : State) → ((s : State) → over (f n s) ≡ true) → over (upto f (n + 1) a) ≡ true
 unfolding steps
@@ -38,10 +43,24 @@ module _ (T : Task) (y : List Float) (S : Settings) where
   unfolding run
   run-over = last (turn T y S) (S .iterations) (start T S) turn-last
 
-  pub solved-over : over (solved T y S) ≡ true
+  -- ---- what the ending of a solve says of its run
+  pub solved-done : (e : State) → solved T y S ≡ done e → run T y S ≡ stopped e
   unfolding solved
-  solved-over = go (all (usableAt T) (T .p))
+  solved-done e = go (all (usableAt T) (T .p)) (run T y S)
     where
-      go : (b : Bool) → over (pick b (run T y S) bad) ≡ true
-      go true = run-over
-      go false = refl
+      go : (b : Bool) (r : Stage State) → pick b (concluded r) (givenUp 7 0) ≡ done e → r ≡ stopped e
+      go true (stopped s) h = cc
+      go true (going s) h = absurd (givenUp≢done h)
+      go true bad h = absurd (givenUp≢done h)
+      go false r h = absurd (givenUp≢done h)
+
+  pub solved-given-up : (number place : ℕ) → solved T y S ≡ givenUp number place → (all (usableAt T) (T .p) ≡ false) ⊎ (run T y S ≡ bad)
+  unfolding solved
+  solved-given-up number place = go (all (usableAt T) (T .p)) refl (run T y S) refl run-over
+    where
+      go : (b : Bool) → all (usableAt T) (T .p) ≡ b → (r : Stage State) → run T y S ≡ r → over r ≡ true
+          → pick b (concluded r) (givenUp 7 0) ≡ givenUp number place → (all (usableAt T) (T .p) ≡ false) ⊎ (run T y S ≡ bad)
+      go true e (stopped s) h o q = absurd (givenUp≢done (sym q))
+      go true e (going s) h o q = absurd (false≢true o)
+      go true e bad h o q = inr h
+      go false e r h o q = inl e

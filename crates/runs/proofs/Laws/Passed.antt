@@ -1,31 +1,40 @@
 -- What a call says that is not refused before its run, and the numbers of those refusals. Assumes nothing.
 use mathlib.Core.Path.{_≡_}
-use mathlib.Core.Bool.{true}
-use mathlib.Core.List.{List}
-use Prim.Native.Nat.{ℕ}
-use lib.Dec.{eqb, lit≤}
-use lib.ListN.{length}
-use lib.Ieee.{Float}
+use lib.Dec.{leb, lit≤}
 use Rattle.doubles.specs.Num.{_and_}
-use Rattle.designs.specs.Checks.{none, sizes, admitted}
-use Rattle.designs.specs.declared.Shape.{Shape}
-use Rattle.designs.proofs.Laws.Passed.{Admitted, spared, admits}
-use Rattle.designs.proofs.Laws.Numbers.{AtMost, unless-most, admitted-most}
-use Rattle.runs.specs.Call.{settingsLegal, Lent, roomy, fitFault}
+use Rattle.doubles.specs.Answer.{none, unless, _then_}
+use Rattle.doubles.proofs.Laws.Verdict.{AtMost, none-most, unless-most, then-most, spared, then-none}
+use Rattle.leaves.specs.Penalty.{alphaLegal, alphaOf, secondLegal, penaltyFault}
+use Rattle.designs.specs.Given.{Given}
+use Rattle.designs.specs.Checks.{sizes, sizedFault, targetsFit}
+use Rattle.designs.proofs.Laws.Passed.{Admitted, admits-sized}
+use Rattle.designs.proofs.Laws.Numbers.{sized-most}
+use Rattle.runs.specs.Call.{startLegal, depthLegal, settingsFault, Lent, roomy, fitFault}
 use Rattle.runs.specs.declared.Settings.{Settings}
 
-module _ (s : Shape) (starts rows : List ℕ) (values y : List Float) (S : Settings) (b : Lent) where
-  -- of its settings and its sizes
-  pub passed : fitFault s starts rows values y S b ≡ none → (settingsLegal S ≡ true) × Admitted s starts rows values (eqb (length y) (s .n)) (roomy s S b)
-  unfolding fitFault
-  passed e =
-      let rest = admitted s starts rows values y (eqb (length y) (s .n)) (roomy s S b) in
-      let r = spared (settingsLegal S) 2 rest (spared (sizes s starts rows values and eqb (length y) (s .n)) 1 _ e .1) in
-      (r .0, admits s starts rows values y (eqb (length y) (s .n)) (roomy s S b) (r .1))
+-- ---- 1 to 6: 7 comes from the run alone
+settings-most : (S : Settings) → AtMost 6 (settingsFault S)
+unfolding settingsFault penaltyFault
+settings-most S =
+    unless-most 2 (lit≤ tt) (leb (S .iterations) 1000)
+    (unless-most 2 (lit≤ tt) (leb (S .epochs) 100000)
+    (unless-most 2 (lit≤ tt) (startLegal S)
+    (unless-most 2 (lit≤ tt) (depthLegal S)
+    (unless-most 2 (lit≤ tt) (alphaLegal (S .tolerance))
+    (unless-most 2 (lit≤ tt) (alphaLegal (alphaOf (S .penalty)))
+    (unless-most 2 (lit≤ tt) (secondLegal (S .penalty)) (none-most 6)))))))
 
-  -- 1 to 6: 7 comes from the run alone
-  pub fault-most : AtMost 6 (fitFault s starts rows values y S b)
+module _ (g : Given) (S : Settings) (b : Lent) where
+  pub fault-most : AtMost 6 (fitFault g S b)
   unfolding fitFault
   fault-most =
-      unless-most 1 (lit≤ tt) (sizes s starts rows values and eqb (length y) (s .n))
-      (unless-most 2 (lit≤ tt) (settingsLegal S) (admitted-most s starts rows values y (eqb (length y) (s .n)) (roomy s S b)))
+      unless-most 1 (lit≤ tt) (sizes (g .shape) (g .starts) (g .rows) (g .values) and targetsFit g)
+      (then-most (settingsFault S) (settings-most S) (sized-most g (roomy (g .shape) S b)))
+
+  -- ---- where there is none, of its settings and its sizes
+  pub passed : fitFault g S b ≡ none → (settingsFault S ≡ none) × Admitted g (targetsFit g) (roomy (g .shape) S b)
+  unfolding fitFault
+  passed e =
+      let sized = spared (sizes (g .shape) (g .starts) (g .rows) (g .values) and targetsFit g) 1 _ e in
+      let rest = then-none (settingsFault S) (sizedFault g (roomy (g .shape) S b)) (sized .1) in
+      (rest .0, admits-sized g (targetsFit g) (roomy (g .shape) S b) (sized .0) (rest .1))
