@@ -6,15 +6,15 @@ use lib.ListN.{length, getD, take, drop}
 use lib.Ieee.{Float, lt}
 use Rattle.doubles.specs.Num.{pick, _and_}
 use Rattle.leaves.specs.declared.penalties.separable.Penalty.{Penalty}
+use Rattle.designs.specs.Given.{Given}
 use Rattle.designs.specs.Sound.{Whole}
 use Rattle.designs.specs.declared.Shape.{Shape}
 use Rattle.runs.specs.Epoch.{Task, task, Point}
-use Rattle.runs.specs.Extrapolation as ext
-use Rattle.runs.specs.Extrapolation.{Tried, keptNow, keeps, objectiveOf, allFinite, chosen, candidate, coefficients}
+use Rattle.runs.specs.Extrapolation.{Tried, keptNow, keeps, objectiveOf, allFinite, chosen, candidateOf}
 
 -- the prepared numbers are the scratch's first 2p places
-abbrev pub taskHere : Shape → List ℕ → List ℕ → List Float → Penalty → List Float → Task
-taskHere s starts rows values penalty scratch = task s starts rows values penalty (take (s .p + s .p) scratch)
+abbrev pub taskIn : Given → Penalty → List Float → Task
+taskIn g penalty scratch = task (g .shape) (g .starts) (g .rows) (g .values) penalty (take (g .shape .p + g .shape .p) scratch)
 
 -- what is kept: K+1 rows of p places behind constants, X'y and violations
 unfoldable pub keptIn : Shape → ℕ → List Float → List Float
@@ -45,13 +45,14 @@ chosenBy penalty y before new old =
 
 -- the candidate of the system's solution z, tried
 unfoldable pub triedFrom : Task → List Float → ℕ → List ℕ → List Float → List Float → Point → Tried
-triedFrom T y K ws kept z s = chosen T y (ext.pointOf T ws (candidate K (T .p) ws kept (coefficients K z))) s
+triedFrom T y K ws kept z s = chosen T y (candidateOf T K ws kept z) s
 
 -- a design, a working set and buffers that fit together, and a depth in its range
 pub record Sized (s : Shape) (starts rows : List ℕ) (values : List Float) (K : ℕ) (ws : List ℕ) (w scratch : List Float) : Type 0 where
   pub whole : Whole s starts rows values
   pub samples : s .n ≤ 65536
   pub features : s .p ≤ 8192
+  pub deep : 0 < K
   pub shallow : K ≤ 10
   pub weights : length w ≡ s .p
   pub room : length scratch ≡ (2 * K + 5) * s .p + s .n
@@ -59,7 +60,7 @@ pub record Sized (s : Shape) (starts rows : List ℕ) (values : List Float) (K :
   pub below : (k : ℕ) → k < length ws → getD ws k 0 < s .p
 
 -- and the targets and a fit with them
-pub record Ready (s : Shape) (starts rows : List ℕ) (values y : List Float) (K : ℕ) (ws : List ℕ) (w fit scratch : List Float) : Type 0 where
-  pub sized : Sized s starts rows values K ws w scratch
-  pub targets : length y ≡ s .n
-  pub fits : length fit ≡ s .n
+pub record StepReady (g : Given) (K : ℕ) (ws : List ℕ) (w fit scratch : List Float) : Type 0 where
+  pub sized : Sized (g .shape) (g .starts) (g .rows) (g .values) K ws w scratch
+  pub targets : length (g .targets) ≡ g .shape .n
+  pub fits : length fit ≡ g .shape .n

@@ -8,6 +8,7 @@ ghost use Rattle.doubles.specs.Num as num;
 ghost use Rattle.doubles.specs.Steps.{sum};
 ghost use Rattle.doubles.specs.Buffer.{put};
 ghost use Rattle.designs.specs.Design as def;
+ghost use Rattle.designs.specs.Given.{given};
 ghost use Rattle.runs.specs.Extrapolation as ext;
 ghost use Rattle.anderson.specs.Places as places;
 use columns::all_finite;
@@ -20,8 +21,9 @@ use designs::Shape;
 use leaves::penalties::inner::value as penalty_value;
 use leaves::penalties::separable::Penalty;
 use quadratic::value as datafit_value;
-use systems::utils::helpers::Ending;
-use systems::utils::helpers::solve_lin_sys;
+use systems::inner::eliminate;
+use systems::inner::is_regular;
+use systems::inner::read_off;
 
 // The depth K, and the length of a row of what is kept.
 pub struct Kept {
@@ -130,7 +132,8 @@ fn combined(kept: &[f64], shape: Kept, c: [f64; 10], i: usize) -> f64
 
 // The candidate takes the place of the weights, zero outside the working set.
 fn write_candidate(kept: &[f64], shape: Kept, c: [f64; 10], ws: &[u32], w: &mut [f64])
-    requires { ⌜ ((k : ℕ) → k < length (now ws) → getD (now ws) k 0 < shape .p) × (length (now w) ≡ shape .p) × (length (now ws) ≤ shape .p) × (shape .depth ≤ 10) × (suc (shape .depth) * shape .p ≤ length (now kept)) ⌝ }
+    requires { ⌜ ((k : ℕ) → k < length (now ws) → getD (now ws) k 0 < shape .p) × (length (now w) ≡ shape .p) × (length (now ws) ≤ shape .p)
+        × (shape .depth ≤ 10) × (suc (shape .depth) * shape .p ≤ length (now kept)) ⌝ }
     ensures { λ _. ⌜ now (w .exit) ≡ ext.candidate (shape .depth) (shape .p) (now (ws .entry)) (now (kept .entry)) c ⌝ }
 {
     clear(w);
@@ -154,7 +157,8 @@ fn objective(y: &[f64], penalty: Penalty, w: &[f64], fit: &[f64]) -> f64
 // Strictly smaller objective, and finite.
 fn is_better(y: &[f64], penalty: Penalty, w: &[f64], fit: &[f64], before: f64) -> bool
     requires { ⌜ (length (now y) ≤ 65536) × (length (now y) ≤ length (now fit)) ⌝ }
-    ensures { λ r. ⌜ r ≡ num._and_ (lt (ext.objectiveOf penalty (now (y .entry)) (now (w .entry)) (now (fit .entry))) before) (num._and_ (ext.allFinite (now (w .entry))) (ext.allFinite (now (fit .entry)))) ⌝ }
+    ensures { λ r. ⌜ r
+        ≡ num._and_ (lt (ext.objectiveOf penalty (now (y .entry)) (now (w .entry)) (now (fit .entry))) before) (num._and_ (ext.allFinite (now (w .entry))) (ext.allFinite (now (fit .entry)))) ⌝ }
 {
     if objective(y, penalty, w, fit) < before {} else {
         return false;
@@ -203,7 +207,8 @@ pub struct Parts {
 
 fn lay_out(n: usize, shape: Kept) -> Parts
     requires { ⌜ (shape .depth ≤ 10) × (shape .p ≤ 8192) × (n ≤ 65536) ⌝ }
-    ensures { λ r. ⌜ (r .kept ≡ 3 * shape .p) × (r .until ≡ r .kept + suc (shape .depth) * shape .p) × (r .old ≡ (2 * shape .depth + 4) * shape .p) × (r .fit ≡ r .old + shape .p) × (r .end ≡ r .fit + n) ⌝ }
+    ensures { λ r. ⌜ (r .kept ≡ 3 * shape .p) × (r .until ≡ r .kept + suc (shape .depth) * shape .p) × (r .old ≡ (2 * shape .depth + 4) * shape .p)
+        × (r .fit ≡ r .old + shape .p) × (r .end ≡ r .fit + n) ⌝ }
 {
     let kept = 3 * shape.p;
     let old = (2 * shape.depth + 4) * shape.p;
@@ -230,9 +235,11 @@ fn make_candidate(
     scratch: &mut [f64],
 )
     requires { ⌜ places.Sized shape (now starts) (now rows) (now values) depth (now ws) (now w) (now scratch) ⌝ }
-    ensures { λ _. ⌜ (now (w .exit) ≡ ext.candidate depth (shape .p) (now (ws .entry)) (places.keptIn shape depth (now (scratch .entry))) c)
-        × (now (scratch .exit) ≡ put (put (now (scratch .entry)) (places.oldAt shape depth) (now (w .entry))) (places.fitAt shape depth) (def.extrapolated (def.design shape (now (starts .entry)) (now (rows .entry)) (now (values .entry))) (now (ws .entry)) (now (w .exit))))
-        × (length (def.extrapolated (def.design shape (now (starts .entry)) (now (rows .entry)) (now (values .entry))) (now (ws .entry)) (now (w .exit))) ≡ shape .n) ⌝ }
+    ensures { λ _. ⌜ (let X = def.design shape (now (starts .entry)) (now (rows .entry)) (now (values .entry)) in
+        let new = def.extrapolated X (now (ws .entry)) (now (w .exit)) in
+        (now (w .exit) ≡ ext.candidate depth (shape .p) (now (ws .entry)) (places.keptIn shape depth (now (scratch .entry))) c)
+        × (now (scratch .exit) ≡ put (put (now (scratch .entry)) (places.oldAt shape depth) (now (w .entry))) (places.fitAt shape depth) new)
+        × (length new ≡ shape .n)) ⌝ }
 {
     let kept = Kept {
         depth: depth,
@@ -259,8 +266,11 @@ fn choose(
     w: &mut [f64],
     fit: &mut [f64],
 ) -> usize
-    requires { ⌜ (length (now y) ≤ 65536) × (length (now new) ≡ length (now y)) × (length (now fit) ≡ length (now new)) × (length (now w) ≡ length (now old)) ⌝ }
-    ensures { λ r. ⌜ places.triedOf r (now (w .exit)) (now (fit .exit)) ≡ places.chosenBy penalty (now (y .entry)) before (places.pointOf (now (w .entry)) (now (new .entry))) (places.pointOf (now (old .entry)) (now (fit .entry))) ⌝ }
+    requires { ⌜ (length (now y) ≤ 65536) × (length (now new) ≡ length (now y)) × (length (now fit) ≡ length (now new))
+        × (length (now w) ≡ length (now old)) ⌝ }
+    ensures { λ r. ⌜ (let candidate = places.pointOf (now (w .entry)) (now (new .entry)) in
+        places.triedOf r (now (w .exit)) (now (fit .exit))
+        ≡ places.chosenBy penalty (now (y .entry)) before candidate (places.pointOf (now (old .entry)) (now (fit .entry)))) ⌝ }
 {
     if is_better(y, penalty, w, new, before) {
         copy(new, fit);
@@ -285,10 +295,14 @@ fn try_candidate(
     fit: &mut [f64],
     scratch: &mut [f64],
 ) -> usize
-    requires { ⌜ places.Ready shape (now starts) (now rows) (now values) (now y) depth (now ws) (now w) (now fit) (now scratch) ⌝ }
-    ensures { λ r. ⌜ (places.triedOf r (now (w .exit)) (now (fit .exit)) ≡ places.triedFrom (places.taskHere shape (now (starts .entry)) (now (rows .entry)) (now (values .entry)) penalty (now (scratch .entry))) (now (y .entry)) depth (now (ws .entry)) (places.keptIn shape depth (now (scratch .entry))) z (places.pointOf (now (w .entry)) (now (fit .entry))))
-        × (places.keptIn shape depth (now (scratch .exit)) ≡ places.keptIn shape depth (now (scratch .entry)))
-        × (take (3 * shape .p) (now (scratch .exit)) ≡ take (3 * shape .p) (now (scratch .entry))) ⌝ }
+    requires { ⌜ places.StepReady (given shape (now starts) (now rows) (now values) (now y)) depth (now ws) (now w) (now fit) (now scratch) ⌝ }
+    ensures { λ r. ⌜ (let g = given shape (now (starts .entry)) (now (rows .entry)) (now (values .entry)) (now (y .entry)) in
+        let T = places.taskIn g penalty (now (scratch .entry)) in
+        let kept = places.keptIn shape depth (now (scratch .entry)) in
+        let before = places.pointOf (now (w .entry)) (now (fit .entry)) in
+        (places.triedOf r (now (w .exit)) (now (fit .exit)) ≡ places.triedFrom T (now (y .entry)) depth (now (ws .entry)) kept z before)
+        × (places.keptIn shape depth (now (scratch .exit)) ≡ kept)
+        × (take (3 * shape .p) (now (scratch .exit)) ≡ take (3 * shape .p) (now (scratch .entry)))) ⌝ }
 {
     let kept = Kept {
         depth: depth,
@@ -318,10 +332,15 @@ fn extrapolate(
     fit: &mut [f64],
     scratch: &mut [f64],
 ) -> usize
-    requires { ⌜ places.Ready shape (now starts) (now rows) (now values) (now y) depth (now ws) (now w) (now fit) (now scratch) × (depth ≤ shape .p) ⌝ }
-    ensures { λ r. ⌜ (places.triedOf r (now (w .exit)) (now (fit .exit)) ≡ ext.extrapolate (places.taskHere shape (now (starts .entry)) (now (rows .entry)) (now (values .entry)) penalty (now (scratch .entry))) (now (y .entry)) depth (now (ws .entry)) (places.keptIn shape depth (now (scratch .entry))) (places.pointOf (now (w .entry)) (now (fit .entry))))
-        × (places.keptIn shape depth (now (scratch .exit)) ≡ places.keptIn shape depth (now (scratch .entry)))
-        × (take (3 * shape .p) (now (scratch .exit)) ≡ take (3 * shape .p) (now (scratch .entry))) ⌝ }
+    requires { ⌜ places.StepReady (given shape (now starts) (now rows) (now values) (now y)) depth (now ws) (now w) (now fit) (now scratch)
+        × (depth ≤ shape .p) ⌝ }
+    ensures { λ r. ⌜ (let g = given shape (now (starts .entry)) (now (rows .entry)) (now (values .entry)) (now (y .entry)) in
+        let T = places.taskIn g penalty (now (scratch .entry)) in
+        let kept = places.keptIn shape depth (now (scratch .entry)) in
+        let before = places.pointOf (now (w .entry)) (now (fit .entry)) in
+        (places.triedOf r (now (w .exit)) (now (fit .exit)) ≡ ext.extrapolate T (now (y .entry)) depth (now (ws .entry)) kept before)
+        × (places.keptIn shape depth (now (scratch .exit)) ≡ kept)
+        × (take (3 * shape .p) (now (scratch .exit)) ≡ take (3 * shape .p) (now (scratch .entry)))) ⌝ }
 {
     let kept = Kept {
         depth: depth,
@@ -330,30 +349,25 @@ fn extrapolate(
     let at = lay_out(shape.n, kept);
     let a = at.kept;
     let b = at.until;
-    let m = system(&scratch[a..b], kept);
-    let solution = solve_lin_sys(m, depth);
-    let z = solution.z;
-    let ending = solution.ending;
-    match ending {
-        Ending::Refused(_) => 0,
-        Ending::Singular => 0,
-        Ending::Solved => {
-            try_candidate(
-                shape,
-                starts,
-                rows,
-                values,
-                y,
-                penalty,
-                depth,
-                z,
-                ws,
-                w,
-                fit,
-                scratch,
-            )
-        }
+    let m = eliminate(system(&scratch[a..b], kept), depth);
+    if is_regular(m, depth) {} else {
+        return 0;
     }
+    let z = read_off(m, depth);
+    try_candidate(
+        shape,
+        starts,
+        rows,
+        values,
+        y,
+        penalty,
+        depth,
+        z,
+        ws,
+        w,
+        fit,
+        scratch,
+    )
 }
 
 // After the visits of epoch e: the weights are kept as row e mod (K+1), and where that is the last row, the extrapolation is tried; the number
@@ -372,10 +386,14 @@ pub fn anderson_accel(
     fit: &mut [f64],
     scratch: &mut [f64],
 ) -> usize
-    requires { ⌜ places.Ready shape (now starts) (now rows) (now values) (now y) depth (now ws) (now w) (now fit) (now scratch) ⌝ }
-    ensures { λ r. ⌜ (places.triedOf r (now (w .exit)) (now (fit .exit)) ≡ ext.tried (places.taskHere shape (now (starts .entry)) (now (rows .entry)) (now (values .entry)) penalty (now (scratch .entry))) (now (y .entry)) depth e (now (ws .entry)) (places.keptThen shape depth e (now (ws .entry)) (now (w .entry)) (now (scratch .entry))) (places.pointOf (now (w .entry)) (now (fit .entry))))
-        × (places.keptIn shape depth (now (scratch .exit)) ≡ places.keptThen shape depth e (now (ws .entry)) (now (w .entry)) (now (scratch .entry)))
-        × (take (3 * shape .p) (now (scratch .exit)) ≡ take (3 * shape .p) (now (scratch .entry))) ⌝ }
+    requires { ⌜ places.StepReady (given shape (now starts) (now rows) (now values) (now y)) depth (now ws) (now w) (now fit) (now scratch) ⌝ }
+    ensures { λ r. ⌜ (let g = given shape (now (starts .entry)) (now (rows .entry)) (now (values .entry)) (now (y .entry)) in
+        let T = places.taskIn g penalty (now (scratch .entry)) in
+        let kept = places.keptThen shape depth e (now (ws .entry)) (now (w .entry)) (now (scratch .entry)) in
+        let before = places.pointOf (now (w .entry)) (now (fit .entry)) in
+        (places.triedOf r (now (w .exit)) (now (fit .exit)) ≡ ext.tried T (now (y .entry)) depth e (now (ws .entry)) kept before)
+        × (places.keptIn shape depth (now (scratch .exit)) ≡ kept)
+        × (take (3 * shape .p) (now (scratch .exit)) ≡ take (3 * shape .p) (now (scratch .entry)))) ⌝ }
 {
     let row = e % (depth + 1);
     let kept = Kept {

@@ -66,13 +66,13 @@ fitFault g S b =
 
 -- ---- how a call ends
 -- refused before its run, and no lent buffer is touched; given up in its run; or done
-pub data Ending : Type 0 where
-  untouched : (number place : ℕ) → Ending
-  givenUp : (number place : ℕ) → Ending
-  done : State → Ending
+pub data End : Type 0 where
+  untouched : (number place : ℕ) → End
+  givenUp : (number place : ℕ) → End
+  done : State → End
 
 -- a run that broke off has met a number that is not finite: 7. None still goes on behind its last turn (proofs/Laws/Ends: run-over)
-abbrev pub concluded : Stage State → Ending
+abbrev pub concluded : Stage State → End
 concluded (stopped s) = done s
 concluded (going s) = givenUp 7 0
 concluded bad = givenUp 7 0
@@ -85,24 +85,24 @@ usable constant xty = finite constant and (eq constant #0 or finite (#1 ⊘ cons
 abbrev pub usableAt : Task → ℕ → Bool
 usableAt T j = usable (constant T j) (at (T .prepared) (T .p + j))
 
-unfoldable pub solved : Task → List Float → Settings → Ending
+unfoldable pub solved : Task → List Float → Settings → End
 solved T y S = pick (all (usableAt T) (T .p)) (concluded (run T y S)) (givenUp 7 0)
 
 -- a preparation, and a solve that uses it
 abbrev pub taskOf : Given → Settings → Task
 taskOf g S = task (g .shape) (g .starts) (g .rows) (g .values) (S .penalty) (prepared (designOf g) (g .targets))
 
-unfoldable pub fitted : Given → Settings → Ending
+unfoldable pub fitted : Given → Settings → End
 fitted g S = solved (taskOf g S) (g .targets) S
 
 -- what the tests refuse is not run
-abbrev pub behind : Fault → Ending → Ending
+abbrev pub behind : Fault → End → End
 behind (answered u) e = e
 behind (refused number place) e = untouched number place
 
 -- the whole call
-unfoldable pub fitEnding : Given → Settings → Lent → Ending
-fitEnding g S b = behind (fitFault g S b) (fitted g S)
+unfoldable pub fitEnd : Given → Settings → Lent → End
+fitEnd g S b = behind (fitFault g S b) (fitted g S)
 
 -- ---- the answer
 -- "Status is 1 (met) if violation ≤ tolerance, else 2 (spent)"
@@ -120,7 +120,7 @@ abbrev pub fitOf : Fit → Outcome Report
 fitOf (Fit.Refused r) = refused (r .number) (r .place)
 fitOf (Fit.Done r) = answered r
 
-abbrev pub answer : Settings → Ending → Outcome Report
+abbrev pub answer : Settings → End → Outcome Report
 answer S (untouched number place) = refused number place
 answer S (givenUp number place) = refused number place
 answer S (done s) = answered (reportOf S s)
@@ -138,13 +138,13 @@ filled s S b w fit = record {
   scratch = put (b .scratch) 0 (zeros (scratchRoom s S));
 }
 
-abbrev pub buffers : Shape → Settings → Lent → Ending → Lent
+abbrev pub buffers : Shape → Settings → Lent → End → Lent
 buffers s S b (untouched number place) = b
 buffers s S b (givenUp number place) = filled s S b (zeros (s .p)) (zeros (s .n))
 buffers s S b (done q) = filled s S b (q .inner .point .weights) (q .inner .point .fit)
 
 unfoldable pub fitCall : Given → Settings → Lent → Outcome Report
-fitCall g S b = answer S (fitEnding g S b)
+fitCall g S b = answer S (fitEnd g S b)
 
 unfoldable pub fitLeft : Given → Settings → Lent → Lent
-fitLeft g S b = buffers (g .shape) S b (fitEnding g S b)
+fitLeft g S b = buffers (g .shape) S b (fitEnd g S b)

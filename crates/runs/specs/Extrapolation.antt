@@ -9,9 +9,7 @@ use lib.Ieee.{Float, lt}
 use Rattle.doubles.specs.Num.{_⊕_, _⊖_, _⊗_, _⊘_, #0, #1, at, finite, pick, _and_}
 use Rattle.doubles.specs.Steps.{steps, sum, tab, all}
 use Rattle.doubles.specs.Buffer.{put}
-use Rattle.doubles.specs.Answer.{Outcome, refused, answered}
-use Rattle.systems.specs.Answer.{Ended, singular, solved}
-use Rattle.systems.specs.Elimination.{solveCall}
+use Rattle.systems.specs.Elimination.{Rows, eliminated, regular, readOff}
 use Rattle.leaves.specs.Penalty.{value}
 use Rattle.leaves.specs.declared.penalties.separable.Penalty.{Penalty}
 use Rattle.designs.specs.Design.{datafit, extrapolated}
@@ -36,7 +34,7 @@ entry K p kept a b = sum (λ k. U p kept k a ⊗ U p kept k b) K
 unfoldable pub systemRow : ℕ → ℕ → List Float → ℕ → List Float
 systemRow K p kept a = tab (λ b. pick (ltb b K) (entry K p kept a b) (pick (eqb b K) #1 #0)) 11
 
-unfoldable pub system : ℕ → ℕ → List Float → List (List Float)
+unfoldable pub system : ℕ → ℕ → List Float → Rows
 system K p kept = tab (λ a. pick (ltb a K) (systemRow K p kept a) (tab (λ b. #0) 11)) 10
 
 -- ---- "With z the solution and c = z/Σz, the candidate is the sum of c_k·row_k for the first K rows, zero elsewhere"
@@ -78,15 +76,16 @@ chosen T y new old = pick (better T y new old) (record { point = new; taken = 1 
 unfoldable pub pointOf : Task → List ℕ → List Float → Point
 pointOf T ws w = record { weights = w; fit = extrapolated (T .X) ws w }
 
--- "any zero on the final diagonal means singular": no candidate
-abbrev pub fromSolution : Task → List Float → ℕ → List ℕ → List Float → Point → Outcome Ended → List Float → Tried
-fromSolution T y K ws kept s (answered solved) z = chosen T y (pointOf T ws (candidate K (T .p) ws kept (coefficients K z))) s
-fromSolution T y K ws kept s (answered singular) z = keeps s
-fromSolution T y K ws kept s (refused number place) z = keeps s
+-- the candidate of a solution z
+unfoldable pub candidateOf : Task → ℕ → List ℕ → List Float → List Float → Point
+candidateOf T K ws kept z = pointOf T ws (candidate K (T .p) ws kept (coefficients K z))
+
+-- of the system m that was eliminated; "any zero on the final diagonal means singular": no candidate
+unfoldable pub fromSystem : Task → List Float → ℕ → List ℕ → List Float → Point → Rows → Tried
+fromSystem T y K ws kept s m = pick (regular K m) (chosen T y (candidateOf T K ws kept (readOff K m)) s) (keeps s)
 
 unfoldable pub extrapolate : Task → List Float → ℕ → List ℕ → List Float → Point → Tried
-extrapolate T y K ws kept s =
-    fromSolution T y K ws kept s (solveCall K (system K (T .p) kept) .ending) (solveCall K (system K (T .p) kept) .z)
+extrapolate T y K ws kept s = fromSystem T y K ws kept s (eliminated K (system K (T .p) kept))
 
 -- "When epoch mod (K+1) = K"; "With fewer than K places the Rust panics; the port skips"
 unfoldable pub due : ℕ → ℕ → List ℕ → Bool

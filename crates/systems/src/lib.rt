@@ -1,2 +1,3 @@
 // Linear systems by elimination. Modules as in the Rust: utils/helpers.
+pub mod inner;
 pub mod utils;

@@ -13,9 +13,10 @@ use Rattle.doubles.proofs.Laws.Buffer.{length-put}
 use Rattle.leaves.specs.declared.penalties.separable.Penalty.{Penalty}
 use Rattle.designs.specs.declared.Shape.{Shape}
 use Rattle.designs.specs.Design.{design, extrapolated}
+use Rattle.designs.specs.Given.{Given, designOf}
 use Rattle.runs.specs.Epoch.{Point}
 use Rattle.runs.specs.Extrapolation.{Tried, candidate, coefficients, objectiveOf, extrapolate, tried, gathered, keptNow}
-use Rattle.anderson.specs.Places.{Sized, Ready, keptIn, oldAt, fitAt, taskHere, pointOf, chosenBy, triedFrom}
+use Rattle.anderson.specs.Places.{Sized, StepReady, keptIn, oldAt, fitAt, taskIn, pointOf, chosenBy, triedFrom}
 use Rattle.anderson.proofs.Laws.Scratch.{room-split, old-put, kept-then, both-put, old-long, new-long, both-old, both-fit, both-kept, both-first, row-kept, row-first}
 use Rattle.anderson.proofs.Laws.Tries.{tried-from, due-here}
 
@@ -46,45 +47,45 @@ made s starts rows values K c ws w l xs v ys a b o f e S at ex ev ey hy =
     )
 
 -- what `try_candidate` asks of `choose`
-pub choose-asks : (s : Shape) (starts rows : List ℕ) (values y : List Float) (K : ℕ) (ws : List ℕ) (w fit l v m : List Float) (a b o f e : ℕ)
-    → Ready s starts rows values y K ws w fit l → Laid s K a b o f e → length v ≡ length w → length m ≡ length l
-    → (length y ≤ 65536) × (length (take (e - f) (drop f m)) ≡ length y) × (length fit ≡ length (take (e - f) (drop f m)))
+pub choose-asks : (g : Given) (K : ℕ) (ws : List ℕ) (w fit l v m : List Float) (a b o f e : ℕ)
+    → StepReady g K ws w fit l → Laid (g .shape) K a b o f e → length v ≡ length w → length m ≡ length l
+    → (length (g .targets) ≤ 65536) × (length (take (e - f) (drop f m)) ≡ length (g .targets)) × (length fit ≡ length (take (e - f) (drop f m)))
     × (length v ≡ length (take (f - o) (drop o m)))
-choose-asks s starts rows values y K ws w fit l v m a b o f e R at hv hm =
-    let old = old-long s K l m o f e (at .2) (at .3) (at .4) (R .sized .room) hm in
-    let new = new-long s K l m o f e (at .2) (at .3) (at .4) (R .sized .room) hm in
+choose-asks g K ws w fit l v m a b o f e R at hv hm =
+    let old = old-long (g .shape) K l m o f e (at .2) (at .3) (at .4) (R .sized .room) hm in
+    let new = new-long (g .shape) K l m o f e (at .2) (at .3) (at .4) (R .sized .room) hm in
     (le-trans (le-of-eq (R .targets)) (R .sized .samples), new ∙ sym (R .targets), R .fits ∙ sym new, hv ∙ R .sized .weights ∙ sym old)
 
 -- `try_candidate`
-pub chosen-here : (s : Shape) (starts rows : List ℕ) (values : List Float) (penalty : Penalty) (y : List Float) (K : ℕ) (ws : List ℕ)
+pub chosen-here : (g : Given) (penalty : Penalty) (K : ℕ) (ws : List ℕ)
     (w fit l z c v m : List Float) (before : Float) (a b o f e : ℕ) (r : Tried)
-    → Ready s starts rows values y K ws w fit l → Laid s K a b o f e
-    → (v ≡ candidate K (s .p) ws (keptIn s K l) c)
-    × (m ≡ put (put l (oldAt s K) w) (fitAt s K) (extrapolated (design s starts rows values) ws v))
-    × (length (extrapolated (design s starts rows values) ws v) ≡ s .n)
-    → before ≡ objectiveOf penalty y w fit → c ≡ coefficients K z
-    → r ≡ chosenBy penalty y before (pointOf v (take (e - f) (drop f m))) (pointOf (take (f - o) (drop o m)) fit)
-    → (r ≡ triedFrom (taskHere s starts rows values penalty l) y K ws (keptIn s K l) z (pointOf w fit))
-    × (keptIn s K m ≡ keptIn s K l)
-    × (take (3 * s .p) m ≡ take (3 * s .p) l)
-chosen-here s starts rows values penalty y K ws w fit l z c v m before a b o f e r R at q eb ec er =
-    let x = extrapolated (design s starts rows values) ws v in
-    let new : take (e - f) (drop f m) ≡ x = both-fit s K l w x (R .sized .weights) (q .2) (R .sized .room) m o f e (q .1) (at .2) (at .3) (at .4) in
-    let old : take (f - o) (drop o m) ≡ w = both-old s K l w x (R .sized .weights) (q .2) (R .sized .room) m o f (q .1) (at .2) (at .3) in (
-      tried-from (taskHere s starts rows values penalty l) y K ws (keptIn s K l) z c w fit v (take (e - f) (drop f m)) (take (f - o) (drop o m)) before r er eb new old (q .0) ec,
-      both-kept s K l w x (R .sized .weights) (q .2) (R .sized .room) m (q .1),
-      both-first s K l w x (R .sized .weights) (q .2) (R .sized .room) m (q .1),
+    → StepReady g K ws w fit l → Laid (g .shape) K a b o f e
+    → (v ≡ candidate K (g .shape .p) ws (keptIn (g .shape) K l) c)
+    × (m ≡ put (put l (oldAt (g .shape) K) w) (fitAt (g .shape) K) (extrapolated (designOf g) ws v))
+    × (length (extrapolated (designOf g) ws v) ≡ g .shape .n)
+    → before ≡ objectiveOf penalty (g .targets) w fit → c ≡ coefficients K z
+    → r ≡ chosenBy penalty (g .targets) before (pointOf v (take (e - f) (drop f m))) (pointOf (take (f - o) (drop o m)) fit)
+    → (r ≡ triedFrom (taskIn g penalty l) (g .targets) K ws (keptIn (g .shape) K l) z (pointOf w fit))
+    × (keptIn (g .shape) K m ≡ keptIn (g .shape) K l)
+    × (take (3 * g .shape .p) m ≡ take (3 * g .shape .p) l)
+chosen-here g penalty K ws w fit l z c v m before a b o f e r R at q eb ec er =
+    let x = extrapolated (designOf g) ws v in
+    let new : take (e - f) (drop f m) ≡ x = both-fit (g .shape) K l w x (R .sized .weights) (q .2) (R .sized .room) m o f e (q .1) (at .2) (at .3) (at .4) in
+    let old : take (f - o) (drop o m) ≡ w = both-old (g .shape) K l w x (R .sized .weights) (q .2) (R .sized .room) m o f (q .1) (at .2) (at .3) in (
+      tried-from (taskIn g penalty l) (g .targets) K ws (keptIn (g .shape) K l) z c w fit v (take (e - f) (drop f m)) (take (f - o) (drop o m)) before r er eb new old (q .0) ec,
+      both-kept (g .shape) K l w x (R .sized .weights) (q .2) (R .sized .room) m (q .1),
+      both-first (g .shape) K l w x (R .sized .weights) (q .2) (R .sized .room) m (q .1),
     )
 
 -- `anderson_accel`: the row is written
-pub row-left : (s : Shape) (starts rows : List ℕ) (values y : List Float) (K j : ℕ) (ws : List ℕ) (w fit l ks : List Float) (a b o f e : ℕ)
-    → Ready s starts rows values y K ws w fit l → Laid s K a b o f e → length ks ≡ length (take (b - a) (drop a l))
-    → ks ≡ put (take (b - a) (drop a l)) (j % (K + 1) * s .p) (gathered ws w)
-    → (keptIn s K (putMid a (b - a) l ks) ≡ keptNow K (s .p) j ws w (keptIn s K l))
-    × (take (3 * s .p) (putMid a (b - a) l ks) ≡ take (3 * s .p) l)
-row-left s starts rows values y K j ws w fit l ks a b o f e R at h q = (
-  row-kept s K l a b j (at .0) (at .1) (R .sized .room) ks h ws w q,
-  row-first s K l a b j (at .0) (at .1) (R .sized .room) ks h (3 * s .p) (le-refl (3 * s .p)),
+pub row-left : (g : Given) (K j : ℕ) (ws : List ℕ) (w fit l ks : List Float) (a b o f e : ℕ)
+    → StepReady g K ws w fit l → Laid (g .shape) K a b o f e → length ks ≡ length (take (b - a) (drop a l))
+    → ks ≡ put (take (b - a) (drop a l)) (j % (K + 1) * g .shape .p) (gathered ws w)
+    → (keptIn (g .shape) K (putMid a (b - a) l ks) ≡ keptNow K (g .shape .p) j ws w (keptIn (g .shape) K l))
+    × (take (3 * g .shape .p) (putMid a (b - a) l ks) ≡ take (3 * g .shape .p) l)
+row-left g K j ws w fit l ks a b o f e R at h q = (
+  row-kept (g .shape) K l a b j (at .0) (at .1) (R .sized .room) ks h ws w q,
+  row-first (g .shape) K l a b j (at .0) (at .1) (R .sized .room) ks h (3 * g .shape .p) (le-refl (3 * g .shape .p)),
 )
 
 -- and the step is not due
@@ -92,16 +93,16 @@ pub and-row : {A B C : Type 0} → A → B × C → A × B × C
 and-row a row = (a, row .0, row .1)
 
 -- or it is tried
-pub step-tried : (s : Shape) (starts rows : List ℕ) (values : List Float) (penalty : Penalty) (y : List Float) (K j : ℕ) (ws : List ℕ)
+pub step-tried : (g : Given) (penalty : Penalty) (K j : ℕ) (ws : List ℕ)
     (l m n kept : List Float) (x : Point) (r : Tried)
-    → (keptIn s K m ≡ kept) × (take (3 * s .p) m ≡ take (3 * s .p) l) → j % (K + 1) ≡ K → K ≤ length ws
-    → (r ≡ extrapolate (taskHere s starts rows values penalty m) y K ws (keptIn s K m) x)
-    × (keptIn s K n ≡ keptIn s K m)
-    × (take (3 * s .p) n ≡ take (3 * s .p) m)
-    → (r ≡ tried (taskHere s starts rows values penalty l) y K j ws kept x) × (keptIn s K n ≡ kept) × (take (3 * s .p) n ≡ take (3 * s .p) l)
-step-tried s starts rows values penalty y K j ws l m n kept x r row h k t =
-    let p = s .p in
+    → (keptIn (g .shape) K m ≡ kept) × (take (3 * g .shape .p) m ≡ take (3 * g .shape .p) l) → j % (K + 1) ≡ K → K ≤ length ws
+    → (r ≡ extrapolate (taskIn g penalty m) (g .targets) K ws (keptIn (g .shape) K m) x)
+    × (keptIn (g .shape) K n ≡ keptIn (g .shape) K m)
+    × (take (3 * g .shape .p) n ≡ take (3 * g .shape .p) m)
+    → (r ≡ tried (taskIn g penalty l) (g .targets) K j ws kept x) × (keptIn (g .shape) K n ≡ kept) × (take (3 * g .shape .p) n ≡ take (3 * g .shape .p) l)
+step-tried g penalty K j ws l m n kept x r row h k t =
+    let p = g .shape .p in
     let h2 : p + p ≤ 3 * p = omega arith in
     let prepared : take (p + p) m ≡ take (p + p) l =
     sym (take-take (p + p) (3 * p) m h2) ∙ ap (take (p + p)) (row .1) ∙ take-take (p + p) (3 * p) l h2 in
-    (due-here s starts rows values penalty y K j ws l m kept x prepared (row .0) h k r (t .0), t .1 ∙ row .0, t .2 ∙ row .1)
+    (due-here g penalty K j ws l m kept x prepared (row .0) h k r (t .0), t .1 ∙ row .0, t .2 ∙ row .1)

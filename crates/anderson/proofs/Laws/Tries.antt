@@ -1,5 +1,6 @@
 -- From what the parts of the step answer to the definitions. Assumes nothing.
 use mathlib.Core.Path.{_≡_, ap, _∙_}
+use mathlib.Core.Bool.{Bool, true, false}
 use Prim.Native.Nat.{ℕ, suc, _+_, _%_, _≤_, _<_}
 use native.Mathlib.Numerals.{add-one}
 use mathlib.Core.List.{List}
@@ -9,20 +10,14 @@ use borrow.Author.Tests.{eq-eqb, ne-eqb, le-leb, lt-leb}
 use Rattle.doubles.specs.Num.{#0, _and_}
 use Rattle.doubles.specs.Steps.{steps, tab}
 use Rattle.doubles.proofs.Laws.Steps.{steps-all}
-use Rattle.doubles.specs.Answer.{Outcome, answered}
-use Rattle.systems.specs.Answer.{solutionOf, endingOf, Ended, solved, singular}
-use Rattle.systems.specs.Elimination.{solveCall}
-use Rattle.systems.specs.declared.utils.helpers.Solution.{Solution}
-use Rattle.systems.specs.declared.utils.helpers.Ending.{Ending}
-use Rattle.systems.specs.declared.utils.helpers.Ending.the-variants as Ending
-use Rattle.doubles.specs.declared.Refusal.{Refusal}
+use Rattle.systems.specs.Elimination.{Rows, eliminated, regular, readOff}
 use Rattle.leaves.specs.declared.penalties.separable.Penalty.{Penalty}
-use Rattle.designs.specs.declared.Shape.{Shape}
+use Rattle.designs.specs.Given.{Given}
 use Rattle.designs.specs.Design.{extrapolated}
 use Rattle.runs.specs.Epoch.{Task, Point}
 use Rattle.runs.specs.Extrapolation as ext
-use Rattle.runs.specs.Extrapolation.{Tried, keeps, combined, candidate, coefficients, system, objectiveOf, better, chosen, extrapolate, fromSolution, due, tried}
-use Rattle.anderson.specs.Places.{pointOf, chosenBy, triedFrom, taskHere, keptIn, Ready}
+use Rattle.runs.specs.Extrapolation.{Tried, keeps, combined, candidate, coefficients, system, objectiveOf, better, chosen, candidateOf, extrapolate, fromSystem, due, tried}
+use Rattle.anderson.specs.Places.{pointOf, chosenBy, triedFrom, taskIn, keptIn, StepReady}
 
 -- all places of the working set written, over zeros
 pub candidate-done : (K p : ℕ) (ws : List ℕ) (kept c u w : List Float) (n i : ℕ) → u ≡ tab (λ j. #0) n → n ≡ p
@@ -37,28 +32,23 @@ pub tried-from : (T : Task) (y : List Float) (K : ℕ) (ws : List ℕ) (kept z c
     → r ≡ chosenBy (T .penalty) y before (pointOf w new) (pointOf old fit₀) → before ≡ objectiveOf (T .penalty) y w₀ fit₀
     → new ≡ extrapolated (T .X) ws w → old ≡ w₀ → w ≡ candidate K (T .p) ws kept c → c ≡ coefficients K z
     → r ≡ triedFrom T y K ws kept z (pointOf w₀ fit₀)
-unfolding chosenBy triedFrom chosen better ext.pointOf
+unfolding chosenBy triedFrom candidateOf chosen better ext.pointOf
 tried-from T y K ws kept z c w₀ fit₀ w new old before r e eb en eo ew ec = e ∙ rw (eb, en, eo, ew, ec)
 
--- ---- by the ending of the elimination
-module _ (T : Task) (y : List Float) (K : ℕ) (ws : List ℕ) (k kept : List Float) (s : Point) (m : List (List Float)) (x : Solution)
-    (ek : k ≡ kept) (em : m ≡ system K (T .p) k) (ex : solutionOf x ≡ solveCall K m) where
-  same : solutionOf x ≡ solveCall K (system K (T .p) kept)
-  same = ex ∙ rw (em, ek)
-
-  by-ending : (o : Outcome Ended) → endingOf (x .ending) ≡ o → fromSolution T y K ws kept s o (x .z) ≡ extrapolate T y K ws kept s
+-- ---- by the diagonal of the system m that was eliminated
+module _ (T : Task) (y : List Float) (K : ℕ) (ws : List ℕ) (k kept : List Float) (s : Point) (a m : Rows) (b : Bool)
+    (ek : k ≡ kept) (ea : a ≡ system K (T .p) k) (em : m ≡ eliminated K a) (eb : b ≡ regular K m) where
+  of-system : fromSystem T y K ws kept s m ≡ extrapolate T y K ws kept s
   unfolding extrapolate
-  by-ending o h = rw (← same, h)
+  of-system = rw (em, ea, ek)
 
-  pub from-solved : x .ending ≡ Ending.Solved → (r : Tried) → r ≡ triedFrom T y K ws kept (x .z) s → r ≡ extrapolate T y K ws kept s
-  unfolding triedFrom
-  from-solved h r e = e ∙ by-ending (answered solved) (ap endingOf h)
+  pub from-regular : b ≡ true → (z : List Float) → z ≡ readOff K m → (r : Tried) → r ≡ triedFrom T y K ws kept z s → r ≡ extrapolate T y K ws kept s
+  unfolding triedFrom fromSystem
+  from-regular h z ez r e = e ∙ rw (ez) (rw (← eb, h) at of-system)
 
-  pub from-singular : x .ending ≡ Ending.Singular → keeps s ≡ extrapolate T y K ws kept s
-  from-singular h = by-ending (answered singular) (ap endingOf h)
-
-  pub from-refused : (q : Refusal) → x .ending ≡ Ending.Refused q → keeps s ≡ extrapolate T y K ws kept s
-  from-refused q h = by-ending _ (ap endingOf h)
+  pub from-singular : b ≡ false → keeps s ≡ extrapolate T y K ws kept s
+  unfolding fromSystem
+  from-singular h = rw (← eb, h) at of-system
 
 -- ---- whether the step is due
 module _ (T : Task) (y : List Float) (K e : ℕ) (ws : List ℕ) (kept : List Float) (s : Point) where
@@ -75,21 +65,21 @@ module _ (T : Task) (y : List Float) (K e : ℕ) (ws : List ℕ) (kept : List Fl
   is-due h l r q = rw (eq-eqb (e % suc K) K (rw add-one at h), le-leb K (length ws) l) q
 
 -- from a scratch in which a row was written
-pub due-here : (s : Shape) (starts rows : List ℕ) (values : List Float) (penalty : Penalty) (y : List Float) (K e : ℕ) (ws : List ℕ) (l m kept : List Float)
-    (x : Point) → take (s .p + s .p) m ≡ take (s .p + s .p) l → keptIn s K m ≡ kept → e % (K + 1) ≡ K → K ≤ length ws
-    → (r : Tried) → r ≡ extrapolate (taskHere s starts rows values penalty m) y K ws (keptIn s K m) x
-    → r ≡ tried (taskHere s starts rows values penalty l) y K e ws kept x
-due-here s starts rows values penalty y K e ws l m kept x hp hk h k r q =
-    is-due (taskHere s starts rows values penalty l) y K e ws kept x h k r (q ∙ rw (hp, hk))
+pub due-here : (g : Given) (penalty : Penalty) (K e : ℕ) (ws : List ℕ) (l m kept : List Float) (x : Point)
+    → take (g .shape .p + g .shape .p) m ≡ take (g .shape .p + g .shape .p) l → keptIn (g .shape) K m ≡ kept → e % (K + 1) ≡ K → K ≤ length ws
+    → (r : Tried) → r ≡ extrapolate (taskIn g penalty m) (g .targets) K ws (keptIn (g .shape) K m) x
+    → r ≡ tried (taskIn g penalty l) (g .targets) K e ws kept x
+due-here g penalty K e ws l m kept x hp hk h k r q = is-due (taskIn g penalty l) (g .targets) K e ws kept x h k r (q ∙ rw (hp, hk))
 
 -- and it is as ready
-pub ready-again : {s : Shape} {starts rows : List ℕ} {values y : List Float} {K : ℕ} {ws : List ℕ} {w fit l : List Float} (m : List Float)
-    → Ready s starts rows values y K ws w fit l → length m ≡ length l → Ready s starts rows values y K ws w fit m
+pub ready-again : {g : Given} {K : ℕ} {ws : List ℕ} {w fit l : List Float} (m : List Float)
+    → StepReady g K ws w fit l → length m ≡ length l → StepReady g K ws w fit m
 ready-again m r h = record {
   sized = record {
     whole = r .sized .whole;
     samples = r .sized .samples;
     features = r .sized .features;
+    deep = r .sized .deep;
     shallow = r .sized .shallow;
     weights = r .sized .weights;
     room = h ∙ r .sized .room;

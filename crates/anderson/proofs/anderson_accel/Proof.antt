@@ -63,7 +63,7 @@ returns c =
     let entry = at-keep .before .before .before .before .before .before .before .before .before .before .before .before .before in
     and-row
     (not-last _ _ _ _ _ _ _ (c .if1 .left))
-    (row-left _ _ _ _ _ _ _ _ _ _ _ _ _ _ _ _ _
+    (row-left _ _ _ _ _ _ _ _ _ _ _ _ _
     (entry .pre)
     (c .before .before .before .before .before .before .before .lay-out .ensures)
     (at-keep .keep .kept .1 .1 .1 .0)
@@ -82,7 +82,7 @@ returns-2 c =
     let entry = at-lay-out .before .before .before .before .before .before .before .before .before in
     and-row
     (too-few _ _ _ _ _ _ _ (c .before .if1 .taken) (c .if2 .left))
-    (row-left _ _ _ _ _ _ _ _ _ _ _ _ _ _ _ _ _
+    (row-left _ _ _ _ _ _ _ _ _ _ _ _ _
     (entry .pre)
     (at-lay-out .lay-out .ensures)
     (at-keep .keep .kept .1 .1 .1 .0)
@@ -118,8 +118,8 @@ returns-3 c =
     let at-keep = at-if1 .before .before .before in
     let at-lay-out = at-keep .before .before .before .before in
     let entry = at-lay-out .before .before .before .before .before .before .before .before .before in
-    step-tried _ _ _ _ _ _ _ _ _ _ _ _ _ _ _
-    (row-left _ _ _ _ _ _ _ _ _ _ _ _ _ _ _ _ _
+    step-tried _ _ _ _ _ _ _ _ _ _ _
+    (row-left _ _ _ _ _ _ _ _ _ _ _ _ _
     (entry .pre)
     (at-lay-out .lay-out .ensures)
     (at-keep .keep .kept .1 .1 .1 .0)

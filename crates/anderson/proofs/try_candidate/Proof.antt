@@ -61,7 +61,7 @@ choose-requires c κs =
     let at-make-candidate = c .before .before .before .before .before .before .before .before .before in
     let at-lay-out = at-make-candidate .before .before .before .before .before .before .before in
     let entry = at-lay-out .before .before .before .before .before .before .before .before .before in
-    choose-asks _ _ _ _ _ _ _ _ _ _
+    choose-asks _ _ _ _ _ _
     (at-make-candidate .make-candidate .last .1 .1 .1 .1 .1 .1 .1 .0)
     (at-make-candidate .make-candidate .last .1 .1 .1 .1 .1 .1 .1 .1 .0)
     _ _ _ _ _
@@ -87,7 +87,7 @@ returns c =
     let at-coefficients = at-objective .before .before .before in
     let at-lay-out = at-coefficients .before in
     let entry = at-lay-out .before .before .before .before .before .before .before .before .before in
-    chosen-here _ _ _ _ _ _ _ _ _ _ _ _ _ _ _ _ _ _ _ _ _ _
+    chosen-here _ _ _ _ _ _ _ _ _ _ _ _ _ _ _ _ _ _
     (entry .pre)
     (at-lay-out .lay-out .ensures)
     (at-make-candidate .make-candidate .ensures)

@@ -2,7 +2,7 @@
 use mathlib.Core.Path.{_∙_}
 use borrow.Author.Tests.{lt-ltb, le-ltb}
 use Rattle.doubles.specs.Num.{_or_}
-use Rattle.systems.specs.Elimination.{eliminated, solution, solveCall}
+use Rattle.systems.specs.Elimination.{solution, solveCall}
 use borrow.Author.Needs.{needs}
 use Rattle.systems.proofs.utils.helpers.solve_lin_sys.Statement.{statement}
 use Rattle.systems.proofs.utils.helpers.solve_lin_sys.Tie as tie
@@ -21,11 +21,8 @@ returns-2 : tie.Need-returns-2
 unfolding solveCall _or_
 returns-2 c = c .refused2 .ensures ∙ rw (le-ltb _ _ (c .before .before .if1 .left), lt-ltb _ _ (c .before .if2 .taken))
 
-echelon-form-requires : tie.Need-echelon-form-requires
-echelon-form-requires c κs = search needs
-
-back-substitute-requires : tie.Need-back-substitute-requires
-back-substitute-requires c κs = search needs
+eliminate-requires : tie.Need-eliminate-requires
+eliminate-requires c κs = search needs
 
 is-regular-requires : tie.Need-is-regular-requires
 is-regular-requires c κs = search needs
@@ -34,26 +31,26 @@ read-off-requires : tie.Need-read-off-requires
 read-off-requires c κs = search needs
 
 returns-3 : tie.Need-returns-3
-unfolding solveCall solution eliminated _or_
+unfolding solveCall solution _or_
 returns-3 c =
+    let at-eliminate = c .before .before .before in
     rw (
-      le-ltb _ _ (c .before .before .before .before .before .before .if1 .left),
-      le-ltb _ _ (c .before .before .before .before .before .if2 .left),
-      ← c .before .before .before .before .echelon-form .ensures,
-      ← c .before .before .before .back-substitute .ensures,
+      le-ltb _ _ (at-eliminate .before .before .if1 .left),
+      le-ltb _ _ (at-eliminate .before .if2 .left),
+      ← at-eliminate .eliminate .ensures,
       ← c .before .before .is-regular .ensures,
       c .before .if3 .taken,
       c .read-off .ensures,
     )
 
 returns-4 : tie.Need-returns-4
-unfolding solveCall solution eliminated _or_
+unfolding solveCall solution _or_
 returns-4 c =
+    let at-eliminate = c .before .before in
     rw (
-      le-ltb _ _ (c .before .before .before .before .before .if1 .left),
-      le-ltb _ _ (c .before .before .before .before .if2 .left),
-      ← c .before .before .before .echelon-form .ensures,
-      ← c .before .before .back-substitute .ensures,
+      le-ltb _ _ (at-eliminate .before .before .if1 .left),
+      le-ltb _ _ (at-eliminate .before .if2 .left),
+      ← at-eliminate .eliminate .ensures,
       ← c .before .is-regular .ensures,
       c .if3 .left,
     )
@@ -66,8 +63,7 @@ solve-lin-sys-spec =
     returns
     refused-requires-2
     returns-2
-    echelon-form-requires
-    back-substitute-requires
+    eliminate-requires
     is-regular-requires
     read-off-requires
     returns-3

@@ -6,8 +6,8 @@ use Rattle.doubles.proofs.Laws.Steps.{downward-none, downward-more}
 use Rattle.systems.specs.Elimination.{clearedAbove, backSubstituted}
 use native.Mathlib.Omega.{arith}
 use borrow.Author.Needs.{needs}
-use Rattle.systems.proofs.utils.helpers.back_substitute.Statement.{statement}
-use Rattle.systems.proofs.utils.helpers.back_substitute.Tie as tie
+use Rattle.systems.proofs.inner.back_substitute.Statement.{statement}
+use Rattle.systems.proofs.inner.back_substitute.Tie as tie
 
 abbrev Inv-loop : tie.InvT-loop
 Inv-loop size a₀ i₀ a i = (1 ≤ i) × (i ≤ size) × (a ≡ downward (clearedAbove size) size (size - i) a₀)

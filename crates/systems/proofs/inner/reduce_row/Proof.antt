@@ -7,8 +7,8 @@ use lib.ListN.{set}
 use Rattle.doubles.proofs.Laws.Steps.{upward-none, upward-more, upward-all}
 use Rattle.systems.specs.Elimination.{reduced}
 use native.Mathlib.Omega.{arith}
-use Rattle.systems.proofs.utils.helpers.reduce_row.Statement.{statement}
-use Rattle.systems.proofs.utils.helpers.reduce_row.Tie as tie
+use Rattle.systems.proofs.inner.reduce_row.Statement.{statement}
+use Rattle.systems.proofs.inner.reduce_row.Tie as tie
 
 abbrev Inv-loop : tie.InvT-loop
 Inv-loop factor src out₀ end k₀ out k =

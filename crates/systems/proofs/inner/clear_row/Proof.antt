@@ -1,8 +1,8 @@
 -- `clear_row`: a zero pivot is passed over; otherwise one row is replaced. Assumes nothing.
 use Rattle.systems.specs.Elimination.{cleared}
 use borrow.Author.Needs.{needs}
-use Rattle.systems.proofs.utils.helpers.clear_row.Statement.{statement}
-use Rattle.systems.proofs.utils.helpers.clear_row.Tie as tie
+use Rattle.systems.proofs.inner.clear_row.Statement.{statement}
+use Rattle.systems.proofs.inner.clear_row.Tie as tie
 
 mul-pivot : tie.Need-mul-pivot
 mul-pivot c = search needs

@@ -8,8 +8,8 @@ use Rattle.doubles.specs.Steps.{all}
 use Rattle.doubles.proofs.Laws.Steps.{steps-none, steps-all, all-more, all-broken}
 use Rattle.systems.specs.Elimination.{entry, regular}
 use native.Mathlib.Omega.{arith}
-use Rattle.systems.proofs.utils.helpers.is_regular.Statement.{statement}
-use Rattle.systems.proofs.utils.helpers.is_regular.Tie as tie
+use Rattle.systems.proofs.inner.is_regular.Statement.{statement}
+use Rattle.systems.proofs.inner.is_regular.Tie as tie
 
 abbrev Inv-loop : tie.InvT-loop
 Inv-loop size a i₀ i = (i ≤ size) × (true ≡ all (λ k. not (eq (entry a k k) #0)) i)

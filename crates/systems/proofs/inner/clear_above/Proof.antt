@@ -6,8 +6,8 @@ use Rattle.doubles.proofs.Laws.Steps.{downward-none, downward-more, downward-al
 use Rattle.systems.specs.Elimination.{cleared, clearedAbove}
 use native.Mathlib.Omega.{arith}
 use borrow.Author.Needs.{needs}
-use Rattle.systems.proofs.utils.helpers.clear_above.Statement.{statement}
-use Rattle.systems.proofs.utils.helpers.clear_above.Tie as tie
+use Rattle.systems.proofs.inner.clear_above.Statement.{statement}
+use Rattle.systems.proofs.inner.clear_above.Tie as tie
 
 abbrev Inv-loop : tie.InvT-loop
 Inv-loop size i a₀ t₀ a t = (t ≤ i) × (a ≡ downward (cleared i 0 size) i (i - t) a₀)

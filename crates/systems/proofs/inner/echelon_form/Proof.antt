@@ -6,8 +6,8 @@ use Rattle.doubles.proofs.Laws.Steps.{steps-none, steps-turn, steps-all}
 use Rattle.systems.specs.Elimination.{clearedBelow, echelon}
 use native.Mathlib.Omega.{arith}
 use borrow.Author.Needs.{needs}
-use Rattle.systems.proofs.utils.helpers.echelon_form.Statement.{statement}
-use Rattle.systems.proofs.utils.helpers.echelon_form.Tie as tie
+use Rattle.systems.proofs.inner.echelon_form.Statement.{statement}
+use Rattle.systems.proofs.inner.echelon_form.Tie as tie
 
 abbrev Inv-loop : tie.InvT-loop
 Inv-loop size a₀ last i₀ a i = (i ≤ last) × (a ≡ steps (clearedBelow size) i a₀)

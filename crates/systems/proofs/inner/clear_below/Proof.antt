@@ -6,8 +6,8 @@ use Rattle.doubles.proofs.Laws.Steps.{upward-none, upward-more, upward-all}
 use Rattle.systems.specs.Elimination.{cleared, clearedBelow}
 use native.Mathlib.Omega.{arith}
 use borrow.Author.Needs.{needs}
-use Rattle.systems.proofs.utils.helpers.clear_below.Statement.{statement}
-use Rattle.systems.proofs.utils.helpers.clear_below.Tie as tie
+use Rattle.systems.proofs.inner.clear_below.Statement.{statement}
+use Rattle.systems.proofs.inner.clear_below.Tie as tie
 
 abbrev Inv-loop : tie.InvT-loop
 Inv-loop size i a₀ t₀ a t = (i + 1 ≤ t) × (t ≤ size) × (a ≡ upward (cleared i i size) (i + 1) t a₀)

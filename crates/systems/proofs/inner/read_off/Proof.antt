@@ -7,8 +7,8 @@ use Rattle.doubles.specs.Steps.{steps}
 use Rattle.doubles.proofs.Laws.Steps.{steps-none, steps-more, steps-all}
 use Rattle.systems.specs.Elimination.{entry, readOff}
 use native.Mathlib.Omega.{arith}
-use Rattle.systems.proofs.utils.helpers.read_off.Statement.{statement}
-use Rattle.systems.proofs.utils.helpers.read_off.Tie as tie
+use Rattle.systems.proofs.inner.read_off.Statement.{statement}
+use Rattle.systems.proofs.inner.read_off.Tie as tie
 
 abbrev Inv-loop : tie.InvT-loop
 Inv-loop size a z₀ i₀ z i = (i ≤ size) × (z ≡ steps (λ k x. set x k (entry a k size ⊘ entry a k k)) i z₀)
