@@ -157,8 +157,8 @@ fn objective(y: &[f64], penalty: Penalty, w: &[f64], fit: &[f64]) -> f64
 // Strictly smaller objective, and finite.
 fn is_better(y: &[f64], penalty: Penalty, w: &[f64], fit: &[f64], before: f64) -> bool
     requires { ⌜ (length (now y) ≤ 65536) × (length (now y) ≤ length (now fit)) ⌝ }
-    ensures { λ r. ⌜ r
-        ≡ num._and_ (lt (ext.objectiveOf penalty (now (y .entry)) (now (w .entry)) (now (fit .entry))) before) (num._and_ (ext.allFinite (now (w .entry))) (ext.allFinite (now (fit .entry)))) ⌝ }
+    ensures { λ r. ⌜ (let smaller = lt (ext.objectiveOf penalty (now (y .entry)) (now (w .entry)) (now (fit .entry))) before in
+        r ≡ num._and_ smaller (num._and_ (ext.allFinite (now (w .entry))) (ext.allFinite (now (fit .entry))))) ⌝ }
 {
     if objective(y, penalty, w, fit) < before {} else {
         return false;

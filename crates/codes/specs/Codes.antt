@@ -7,18 +7,18 @@ use Rattle.doubles.specs.Num.{pick}
 use Rattle.doubles.specs.Answer.{Outcome, refused, answered}
 use Rattle.leaves.specs.declared.penalties.separable.Penalty.{Penalty}
 use Rattle.leaves.specs.declared.penalties.separable.Penalty.the-variants.{L1, L1PlusL2, MCP}
-use Rattle.designs.specs.Checks.{Fault, none, fault}
+use Rattle.doubles.specs.Answer.{refused, Fault, none}
 use Rattle.runs.specs.declared.Settings.{Settings}
 use Rattle.runs.specs.declared.Report.{Report}
 
 -- ---- a fault as two numbers: document 01's number and place, both 0 where there is none
 abbrev pub numberOfFault : Fault → ℕ
 numberOfFault none = 0
-numberOfFault (fault number place) = number
+numberOfFault (refused number place) = number
 
 abbrev pub placeOfFault : Fault → ℕ
 placeOfFault none = 0
-placeOfFault (fault number place) = place
+placeOfFault (refused number place) = place
 
 -- ---- the settings: "penalty 0 L1/1 L1PlusL2/2 MCP"; "second number (.. ignored for L1)"
 -- any other code stands for a penalty whose alpha is in no range, and so for refusal 2

@@ -1,14 +1,14 @@
 // Settings, refusals, reports and the size of a working set as plain numbers, for the calls from other languages.
 ghost use mathlib.Core.Path.{_≡_};
 ghost use Prim.Native.Nat.{ℕ};
-ghost use Rattle.designs.specs.Checks.{Fault, verdictOf, after, left};
+ghost use Rattle.doubles.specs.Answer.{Fault, verdictOf, after, left};
 ghost use Rattle.designs.specs.Design as def;
 ghost use Rattle.runs.specs.Call as call;
 ghost use Rattle.worksets.specs.Call as sets;
 ghost use Rattle.codes.specs.Codes as codes;
 use designs::Layout;
 use designs::Shape;
-use designs::Verdict;
+use doubles::Verdict;
 use leaves::penalties::separable::Penalty;
 use runs::Fit;
 use runs::Settings;

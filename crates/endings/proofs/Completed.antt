@@ -17,7 +17,7 @@ use Rattle.doubles.proofs.Laws.Steps.{all-each}
 use Rattle.doubles.proofs.Laws.Buffer.{put-in}
 use Rattle.doubles.proofs.Laws.Finite.{largest-finite}
 use Rattle.doubles.proofs.Laws.Ends.{last-turn, going≢stopped, stopped≢bad, refused≢answered}
-use Rattle.designs.specs.Checks.{Fault, none, fault}
+use Rattle.doubles.specs.Answer.{refused, Fault, none}
 use Rattle.designs.specs.declared.Shape.{Shape}
 use Rattle.designs.proofs.Laws.Layouts.{samples}
 use Rattle.runs.specs.Epoch.{Task, violationOf, known, allKnown, worst}
@@ -129,7 +129,7 @@ module _ (s : Shape) (starts rows : List ℕ) (values y : List Float) (S : Setti
           (λ j l. front (b .weights) (e .inner .point .weights) (s .p) j (c .weights) l) (λ i l. front (b .fit) (e .inner .point .fit) (s .n) i (c .fit) l))
       go none h (going e) q a = absurd (refused≢answered a)
       go none h bad q a = absurd (refused≢answered a)
-      go (fault number k) h x q a = absurd (refused≢answered a)
+      go (refused number k) h x q a = absurd (refused≢answered a)
 
   pub completed : CompletedCall s starts rows values y S b
   completed = record { run = call-run; left = call-left }

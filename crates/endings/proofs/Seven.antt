@@ -9,7 +9,7 @@ use lib.Ieee.{Float}
 use Rattle.doubles.specs.Steps.{Stage, going, stopped, bad, over}
 use Rattle.doubles.specs.Answer.{refused, answered}
 use Rattle.doubles.proofs.Laws.Ends.{refused≢answered}
-use Rattle.designs.specs.Checks.{Fault, none, fault}
+use Rattle.doubles.specs.Answer.{refused, Fault, none}
 use Rattle.designs.specs.declared.Shape.{Shape}
 use Rattle.runs.specs.Epoch.{Task}
 use Rattle.runs.specs.Run.{State}
@@ -41,7 +41,7 @@ module _ (s : Shape) (starts rows : List ℕ) (values y : List Float) (S : Setti
     where
       go : (f : Fault) → fitFault s starts rows values y S b ≡ f → answer f S (solved T y S) ≡ refused 7 place → NotFinite T y S
       go none h e = solved-broken T y S (ended-bad S (solved T y S) 7 place (solved-over T y S) e)
-      go (fault number k) h e =
+      go (refused number k) h e =
           let q : number ≡ 7 = cc in
           let l : number ≤ 6 = fault-most s starts rows values y S b .most number k h in
           absurd (omega arith)
@@ -56,7 +56,7 @@ module _ (s : Shape) (starts rows : List ℕ) (values y : List Float) (S : Setti
     where
       go : (f : Fault) → answer f S bad ≡ answered r → ⊥
       go none h = refused≢answered h
-      go (fault number k) h = refused≢answered h
+      go (refused number k) h = refused≢answered h
 
   pub seven : Seven s starts rows values y S b
   seven = record { only = seven-only; whenever = seven-if; answers = answered-none }

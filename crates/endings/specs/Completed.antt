@@ -10,7 +10,7 @@ use Rattle.doubles.specs.Num.{at, finite}
 use Rattle.doubles.specs.Sign.{negzero}
 use Rattle.doubles.specs.Steps.{stopped}
 use Rattle.doubles.specs.Answer.{answered}
-use Rattle.designs.specs.Checks.{none}
+use Rattle.doubles.specs.Answer.{none}
 use Rattle.designs.specs.declared.Shape.{Shape}
 use Rattle.runs.specs.Run.{State}
 use Rattle.runs.specs.Call.{Lent, fitFault, fitted, fitCall, fitLeft}

@@ -10,7 +10,7 @@ use Rattle.doubles.specs.Num.{_⊖_, _⊘_, #0, #1, at, finite}
 use Rattle.doubles.specs.Steps.{going, bad, upto, over}
 use Rattle.doubles.specs.Answer.{refused, answered}
 use Rattle.designs.specs.Design.{design, moved, prepared}
-use Rattle.designs.specs.Checks.{none}
+use Rattle.doubles.specs.Answer.{none}
 use Rattle.designs.specs.declared.Shape.{Shape}
 use Rattle.runs.specs.Epoch as Epoch
 use Rattle.runs.specs.Epoch.{Task, task, gradientOf, violationOf, allKnown, worst, Point, newWeight, visit, visits}

@@ -1,7 +1,7 @@
 // Calls for programs in other languages: numbers, slices and references to numbers. A slice passes as a pointer and then a length. Each
 // answers document 01's refusal number, 0 where there is none; where a refusal has a place, it is left in `place`.
 ghost use mathlib.Core.Path.{_≡_};
-ghost use Rattle.designs.specs.Checks.{left};
+ghost use Rattle.doubles.specs.Answer.{left};
 ghost use Rattle.designs.specs.Design as def;
 ghost use Rattle.datafits.specs.Calls as calls;
 ghost use Rattle.runs.specs.Call as call;

@@ -6,7 +6,8 @@ use lib.ListN.{length}
 use lib.Ieee.{Float}
 use Rattle.doubles.specs.Num.{_and_}
 use Rattle.designs.specs.Design.{dense, denseShape, nothing, dot, moved}
-use Rattle.designs.specs.Checks.{Fault, none, unless, sizes, left}
+use Rattle.doubles.specs.Answer.{Fault, none, unless, left}
+use Rattle.designs.specs.Checks.{sizes}
 
 -- "a feature number at or above p is 1"; 3 where the list that the column meets, of so many places, has fewer than n
 unfoldable pub kernelFault : ℕ → ℕ → List Float → ℕ → ℕ → Fault

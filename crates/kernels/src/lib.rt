@@ -2,7 +2,7 @@
 // They look at sizes and at no number, so they are for callers that have checked their design; the exports have no such call.
 ghost use mathlib.Core.Path.{_≡_};
 ghost use lib.ListN.{length};
-ghost use Rattle.designs.specs.Checks.{verdictOf};
+ghost use Rattle.doubles.specs.Answer.{verdictOf};
 ghost use Rattle.codes.specs.Codes.{numberOfFault, placeOfFault};
 ghost use Rattle.kernels.specs.Kernels as kernels;
 use codes::dense;
@@ -10,7 +10,7 @@ use codes::tell_verdict;
 use columns::column_dot;
 use columns::column_update;
 use designs::Feature;
-use designs::Verdict;
+use doubles::Verdict;
 use designs::inner::sizes_agree;
 use doubles::Refusal;
 use doubles::inner::both;

@@ -11,7 +11,7 @@ use Rattle.doubles.specs.Answer.{answered}
 use Rattle.leaves.specs.Odd.{Odd}
 use Rattle.leaves.proofs.Odd.{odd}
 use Rattle.designs.specs.Design.{Design, dense, csc, laid, design, prepared}
-use Rattle.designs.specs.Checks.{Fault, none, fault}
+use Rattle.doubles.specs.Answer.{refused, Fault, none}
 use Rattle.designs.specs.declared.Layout.{Layout}
 use Rattle.designs.specs.declared.Layout.the-variants.{Dense, Csc}
 use Rattle.designs.specs.declared.Shape.{Shape}
@@ -79,7 +79,7 @@ module _ {c σ : ℕ → Bool} {t : Bool} {s : Shape} {starts rows : List ℕ} {
     where
       go : (f : Fault) → fitFault s starts rows values y S b ≡ f → answer f S (fitted s starts rows values y S) ≡ answer f S (fitted s starts rows values' y' S)
       go none e = ended-same S _ _ (run-turned e)
-      go (fault number place) e = refl
+      go (refused number place) e = refl
 
   pub sign-law-passed : SameCall c t s starts rows values values' y y' S b
   sign-law-passed = record { refusal = refusal-same; answer = answer-same; run = run-turned }

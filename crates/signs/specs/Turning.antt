@@ -11,7 +11,7 @@ use Rattle.doubles.specs.Num.{pick}
 use Rattle.doubles.specs.Sign.{flip, Turned, Signs}
 use Rattle.doubles.specs.Steps.{steps, Stage, going, stopped, bad}
 use Rattle.designs.specs.Design.{design}
-use Rattle.designs.specs.Checks.{none}
+use Rattle.doubles.specs.Answer.{none}
 use Rattle.designs.specs.declared.Layout.{Layout}
 use Rattle.designs.specs.declared.Layout.the-variants.{Dense, Csc}
 use Rattle.designs.specs.declared.Shape.{Shape}

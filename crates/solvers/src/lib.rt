@@ -13,7 +13,7 @@ ghost use Rattle.inner_loops.specs.Reading.{Ready};
 ghost use Rattle.solvers.specs.Buffers.{lent};
 use columns::clear;
 use designs::Shape;
-use designs::Verdict;
+use doubles::Verdict;
 use designs::inner::admit;
 use designs::inner::sizes_agree;
 use doubles::Refusal;

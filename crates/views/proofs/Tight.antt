@@ -12,8 +12,8 @@ use prog.Wp.{Heap}
 use denote.Ref.{now}
 use Rattle.doubles.proofs.Tight.{coincide, one-number}
 use Rattle.doubles.specs.declared.Number.{Number}
-use Rattle.designs.specs.declared.Verdict.{Verdict}
-use Rattle.designs.proofs.Tight.{one-verdict}
+use Rattle.doubles.specs.declared.Verdict.{Verdict}
+use Rattle.doubles.proofs.Tight.{one-verdict}
 use Rattle.runs.specs.Call.{Lent}
 use Rattle.runs.specs.declared.Fit.{Fit}
 use Rattle.solvers.proofs.Tight.{one-fit}

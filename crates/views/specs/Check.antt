@@ -4,7 +4,8 @@ use mathlib.Core.List.{List, []}
 use Prim.Native.Nat.{ℕ}
 use lib.Ieee.{Float}
 use Rattle.designs.specs.Design.{cscShape}
-use Rattle.designs.specs.Checks.{Fault, admitted}
+use Rattle.doubles.specs.Answer.{Fault}
+use Rattle.designs.specs.Checks.{admitted}
 
 -- refusals 1, 4, 5 and 6 in their order: no targets, no lent buffer; the place of a stored value is still "n + position in values"
 abbrev pub designFault : ℕ → ℕ → List ℕ → List ℕ → List Float → Fault

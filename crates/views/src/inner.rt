@@ -3,7 +3,7 @@
 ghost use mathlib.Core.Path.{_≡_};
 ghost use Rattle.doubles.specs.Answer.{numberOf};
 ghost use Rattle.designs.specs.Design as def;
-ghost use Rattle.designs.specs.Checks.{verdictOf};
+ghost use Rattle.doubles.specs.Answer.{verdictOf};
 ghost use Rattle.datafits.specs.Calls as calls;
 ghost use Rattle.runs.specs.Call as call;
 ghost use Rattle.solvers.specs.Buffers.{lent};
@@ -11,7 +11,7 @@ ghost use Rattle.views.specs.Check.{designFault};
 use designs::Feature;
 use designs::Layout;
 use designs::Shape;
-use designs::Verdict;
+use doubles::Verdict;
 use designs::inner::admit;
 use doubles::Number;
 use runs::Fit;

@@ -3,13 +3,13 @@
 ghost use mathlib.Core.Path.{_≡_};
 ghost use Rattle.doubles.specs.Answer.{numberOf};
 ghost use Rattle.designs.specs.Design as def;
-ghost use Rattle.designs.specs.Checks.{verdictOf};
+ghost use Rattle.doubles.specs.Answer.{verdictOf};
 ghost use Rattle.datafits.specs.Calls as calls;
 ghost use Rattle.runs.specs.Call as call;
 ghost use Rattle.solvers.specs.Buffers.{lent};
 ghost use Rattle.views.specs.Check.{designFault};
 use designs::Feature;
-use designs::Verdict;
+use doubles::Verdict;
 use doubles::Number;
 use runs::Fit;
 use runs::Settings;

@@ -9,7 +9,8 @@ use Rattle.doubles.specs.Num.{#0, at, finite, _and_, _or_}
 use Rattle.doubles.specs.Buffer.{put}
 use Rattle.doubles.specs.Answer.{Outcome, refused, answered}
 use Rattle.designs.specs.Search.{firstOf, mark}
-use Rattle.designs.specs.Checks.{Fault, none, unless, told, after, left}
+use Rattle.doubles.specs.Answer.{Fault, none, unless, after, left}
+use Rattle.designs.specs.Checks.{told}
 use Rattle.runs.specs.WorkingSet.{isZero, size, workingSet, padded}
 use Rattle.worksets.specs.declared.WorkingSet.{WorkingSet}
 use Rattle.worksets.specs.declared.WorkingSet.the-variants as WorkingSet

@@ -10,11 +10,13 @@ use lib.Ieee.{Float}
 use borrow.Author.Tests.{le-leb, lt-leb, leb-true, ltb-true}
 use Rattle.doubles.specs.Num.{_and_}
 use Rattle.doubles.proofs.Laws.Choice.{and-both}
-use Rattle.designs.specs.Checks.{none, fault, sizes}
+use Rattle.doubles.specs.Answer.{refused, none}
+use Rattle.designs.specs.Checks.{sizes}
 use Rattle.designs.specs.Design.{design, denseShape, nothing, laid, dot, moved}
 use Rattle.designs.specs.Sound.{Held, Whole}
 use Rattle.designs.specs.declared.Shape.{Shape}
-use Rattle.designs.proofs.Laws.Passed.{sized, spared, dense-values}
+use Rattle.doubles.proofs.Laws.Verdict.{spared}
+use Rattle.designs.proofs.Laws.Passed.{sized, dense-values}
 use Rattle.kernels.specs.Kernels.{kernelFault, productLeft, updateLeft}
 
 module _ (n p : ℕ) (values : List Float) (column : ℕ) (s : Shape) (hs : s ≡ denseShape n p) where
@@ -24,11 +26,11 @@ module _ (n p : ℕ) (values : List Float) (column : ℕ) (s : Shape) (hs : s �
     unfolding kernelFault
     fine h k = rw (← hs, ← hz, ← ht, h, le-leb n places k)
 
-    pub short : t ≡ true → places < n → fault 3 0 ≡ kernelFault n p values column places
+    pub short : t ≡ true → places < n → refused 3 0 ≡ kernelFault n p values column places
     unfolding kernelFault
     short h k = rw (← hs, ← hz, ← ht, h, lt-leb n places k)
 
-    pub wrong : t ≡ false → fault 1 0 ≡ kernelFault n p values column places
+    pub wrong : t ≡ false → refused 1 0 ≡ kernelFault n p values column places
     unfolding kernelFault
     wrong h = rw (← hs, ← hz, ← ht, h)
 

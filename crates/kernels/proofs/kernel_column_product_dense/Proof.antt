@@ -1,6 +1,6 @@
 -- `kernel_column_product_dense`: the tests, then the column. Assumes nothing.
 use mathlib.Core.Path.{refl}
-use Rattle.designs.proofs.Laws.Passed.{stop-left, pass}
+use Rattle.doubles.proofs.Laws.Verdict.{stop-left, pass}
 use Rattle.kernels.specs.Kernels.{productLeft}
 use Rattle.kernels.proofs.Laws.Kernels.{ready, product-told}
 use borrow.Author.Needs.{needs}

@@ -12,7 +12,7 @@ use Rattle.doubles.specs.Num.{pick, _and_}
 use Rattle.doubles.specs.Buffer.{put}
 use Rattle.doubles.proofs.Laws.Choice.{and-both}
 use Rattle.doubles.specs.Answer.{Outcome, refused, answered}
-use Rattle.designs.specs.Checks.{none, unless, after, left}
+use Rattle.doubles.specs.Answer.{none, unless, after, left}
 use Rattle.runs.specs.declared.Report.{Report}
 use Rattle.listings.specs.Listing.{listed}
 use Rattle.listings.specs.Call.{writeFault, writeCall, writeLeft}

@@ -15,10 +15,11 @@ use Rattle.doubles.specs.Steps.{Stage}
 use Rattle.doubles.proofs.Laws.Choice.{and-both}
 use Rattle.doubles.specs.Answer.{Outcome, refused, answered}
 use Rattle.doubles.specs.declared.Refusal.{Refusal}
-use Rattle.designs.specs.Checks.{none, fault, sizes, admitted, verdictOf}
+use Rattle.doubles.specs.Answer.{refused, none, verdictOf}
+use Rattle.designs.specs.Checks.{sizes, admitted}
 use Rattle.designs.specs.declared.Shape.{Shape}
-use Rattle.designs.specs.declared.Verdict.{Verdict}
-use Rattle.designs.specs.declared.Verdict.the-variants as Verdict
+use Rattle.doubles.specs.declared.Verdict.{Verdict}
+use Rattle.doubles.specs.declared.Verdict.the-variants as Verdict
 use Rattle.designs.proofs.Laws.Passed.{Admitted, admits}
 use Rattle.runs.specs.Run.{State}
 use Rattle.runs.specs.Call.{settingsLegal, scratchRoom, Lent, roomy, fitFault, fitted, reportOf, ended, zeros, weightsOf, fitEntries, buffers, fitCall, fitLeft}
@@ -84,7 +85,7 @@ module _ (s : Shape) (starts rows : List ℕ) (values y : List Float) (S : Setti
   abbrev pub Left : Outcome Report → Lent → Type 0
   Left o b' = (o ≡ fitCall s starts rows values y S b) × (b' ≡ fitLeft s starts rows values y S b)
 
-  left-refused : (number place : ℕ) → fitFault s starts rows values y S b ≡ fault number place → (o : Outcome Report) → o ≡ refused number place → Left o b
+  left-refused : (number place : ℕ) → fitFault s starts rows values y S b ≡ refused number place → (o : Outcome Report) → o ≡ refused number place → Left o b
   unfolding fitCall fitLeft
   left-refused number place f o e = rw (f) (e, refl)
 

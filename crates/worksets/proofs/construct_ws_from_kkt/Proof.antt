@@ -14,7 +14,7 @@ use Rattle.doubles.specs.Buffer.{put}
 use Rattle.doubles.specs.Answer.{Outcome, refused, answered}
 use Rattle.doubles.proofs.Laws.Choice.{and-both}
 use Rattle.doubles.proofs.Laws.Buffer.{put-front}
-use Rattle.designs.specs.Checks.{none, fault}
+use Rattle.doubles.specs.Answer.{refused, none}
 use Rattle.runs.specs.WorkingSet.{size, workingSet, padded}
 use Rattle.worksets.specs.Call.{wsFault, wsCall, wsLeft}
 use Rattle.worksets.proofs.Laws.Numbers.{numbers-of}
@@ -34,7 +34,7 @@ within start p r e h = leb-true start p (and-both (leb 1 start) (leb start p) (s
 
 -- a refusal changes no place, and what is not refused is the set
 module _ (v w : List Float) (start : ℕ) (indices : List ℕ) where
-  refused-as : (r : Outcome ℕ) (number place : ℕ) → r ≡ refused number place → wsFault v w start indices ≡ fault number place
+  refused-as : (r : Outcome ℕ) (number place : ℕ) → r ≡ refused number place → wsFault v w start indices ≡ refused number place
       → (r ≡ wsCall v w start indices) × (indices ≡ wsLeft v w start indices)
   unfolding wsCall wsLeft
   refused-as r number place e f = rw f (e, refl)
