@@ -1,26 +1,22 @@
 -- What the answers of the inner loops stand for, together with the buffers, and what the loops ask for.
 use mathlib.Core.Path.{_≡_}
-use mathlib.Core.Bool.{true}
 use mathlib.Core.List.{List, []}
 use Prim.Native.Nat.{ℕ, _≤_, _<_}
 use lib.ListN.{length, getD}
 use lib.Ieee.{Float}
 use Rattle.doubles.specs.Num.{pick}
+use Rattle.doubles.specs.Answer.{none}
 use Rattle.doubles.specs.Steps.{Stage, going, stopped, bad}
+use Rattle.designs.specs.Given.{Given}
 use Rattle.designs.specs.Sound.{Whole}
 use Rattle.designs.specs.declared.Shape.{Shape}
-use Rattle.runs.specs.Epoch.{Task}
 use Rattle.runs.specs.Run.{Inner}
-use Rattle.runs.specs.Call.{scratchRoom, settingsLegal}
+use Rattle.runs.specs.Call.{scratchRoom, settingsFault}
 use Rattle.runs.specs.declared.Settings.{Settings}
-use Rattle.anderson.specs.Places.{taskHere, keptIn, pointOf}
+use Rattle.anderson.specs.Places.{keptIn, pointOf}
 use Rattle.inner_loops.specs.declared.Counts.{Counts}
 use Rattle.inner_loops.specs.declared.InnerStep.{InnerStep}
 use Rattle.inner_loops.specs.declared.InnerStep.the-variants as Inner'
-
--- the prepared numbers are the scratch's first 2p places
-abbrev pub taskOf : Shape → List ℕ → List ℕ → List Float → Settings → List Float → Task
-taskOf s starts rows values S scratch = taskHere s starts rows values (S .penalty) scratch
 
 -- what is kept, if anything is
 unfoldable pub keptHere : Shape → Settings → List Float → List Float
@@ -43,15 +39,15 @@ countsOf Inner'.Bad c = c
 
 -- ---- what the loops ask for
 -- a design, settings and buffers that passed the tests, each buffer of its room
-pub record Ready (s : Shape) (starts rows : List ℕ) (values y : List Float) (S : Settings) (w fit scratch : List Float) : Type 0 where
-  pub whole : Whole s starts rows values
-  pub samples : s .n ≤ 65536
-  pub features : s .p ≤ 8192
-  pub legal : settingsLegal S ≡ true
-  pub targets : length y ≡ s .n
-  pub weights : length w ≡ s .p
-  pub fits : length fit ≡ s .n
-  pub room : length scratch ≡ scratchRoom s S
+pub record Ready (g : Given) (S : Settings) (w fit scratch : List Float) : Type 0 where
+  pub whole : Whole (g .shape) (g .starts) (g .rows) (g .values)
+  pub samples : g .shape .n ≤ 65536
+  pub features : g .shape .p ≤ 8192
+  pub legal : settingsFault S ≡ none
+  pub targets : length (g .targets) ≡ g .shape .n
+  pub weights : length w ≡ g .shape .p
+  pub fits : length fit ≡ g .shape .n
+  pub room : length scratch ≡ scratchRoom (g .shape) S
 
 -- a working set of its features
 pub record Features (s : Shape) (ws : List ℕ) : Type 0 where

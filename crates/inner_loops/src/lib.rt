@@ -6,10 +6,11 @@ ghost use Prim.Native.Nat.{ℕ, _+_, _≤_, _<_};
 ghost use lib.Ieee.{le, lt};
 ghost use lib.ListN.{length, getD, take};
 ghost use Rattle.doubles.specs.Num as num;
+ghost use Rattle.designs.specs.Given.{given};
 ghost use Rattle.designs.specs.Sound.{Whole};
 ghost use Rattle.runs.specs.Epoch as ep;
 ghost use Rattle.runs.specs.Run as def;
-ghost use Rattle.anderson.specs.Places.{pointOf};
+ghost use Rattle.anderson.specs.Places.{pointOf, taskIn};
 ghost use Rattle.inner_loops.specs.Reading as here;
 use anderson::anderson_accel;
 use designs::Shape;
@@ -55,9 +56,12 @@ fn check(
     fit: &[f64],
     counts: Counts,
 ) -> InnerStep
-    requires { ⌜ ((k : ℕ) → k < length (now ws) → getD (now ws) k 0 < shape .p) × (shape .n ≤ 65536) × (length (now w) ≡ shape .p) × (length (now prepared) ≡ shape .p + shape .p) × Whole shape (now starts) (now rows) (now values) × (length (now fit) ≡ shape .n) ⌝ }
-    ensures { λ r. ⌜ ((kept : List _) → here.innerStage r (now (w .entry)) (now (fit .entry)) kept ≡ def.checked (ep.task shape (now (starts .entry)) (now (rows .entry)) (now (values .entry)) (settings .penalty) (now (prepared .entry))) settings (now (ws .entry)) outer (here.innerOf counts (now (w .entry)) (now (fit .entry)) kept))
-        × (here.countsOf r counts ≡ counts) ⌝ }
+    requires { ⌜ ((k : ℕ) → k < length (now ws) → getD (now ws) k 0 < shape .p) × (shape .n ≤ 65536) × (length (now w) ≡ shape .p)
+        × (length (now prepared) ≡ shape .p + shape .p) × Whole shape (now starts) (now rows) (now values) × (length (now fit) ≡ shape .n) ⌝ }
+    ensures { λ r. ⌜ (let T = ep.task shape (now (starts .entry)) (now (rows .entry)) (now (values .entry)) (settings .penalty) (now (prepared .entry)) in
+        ((kept : List _) → here.innerStage r (now (w .entry)) (now (fit .entry)) kept
+        ≡ def.checked T settings (now (ws .entry)) outer (here.innerOf counts (now (w .entry)) (now (fit .entry)) kept))
+        × (here.countsOf r counts ≡ counts)) ⌝ }
 {
     let penalty = settings.penalty;
     match ws_violation(shape, starts, rows, values, penalty, prepared, ws, w, fit) {
@@ -96,11 +100,16 @@ fn accelerate(
     scratch: &mut [f64],
     counts: Counts,
 ) -> Counts
-    requires { ⌜ here.Ready shape (now starts) (now rows) (now values) (now y) settings (now w) (now fit) (now scratch) × here.Features shape (now ws) × here.Counted 1000000000 counts ⌝ }
-    ensures { λ r. ⌜ (here.innerOf r (now (w .exit)) (now (fit .exit)) (here.keptHere shape settings (now (scratch .exit))) ≡ def.accelerated (here.taskOf shape (now (starts .entry)) (now (rows .entry)) (now (values .entry)) settings (now (scratch .entry))) (now (y .entry)) settings (now (ws .entry)) e (here.innerOf counts (now (w .entry)) (now (fit .entry)) (here.keptHere shape settings (now (scratch .entry)))) (pointOf (now (w .entry)) (now (fit .entry))))
+    requires { ⌜ here.Ready (given shape (now starts) (now rows) (now values) (now y)) settings (now w) (now fit) (now scratch)
+        × here.Features shape (now ws) × here.Counted 1000000000 counts ⌝ }
+    ensures { λ r. ⌜ (let g = given shape (now (starts .entry)) (now (rows .entry)) (now (values .entry)) (now (y .entry)) in
+        let T = taskIn g (settings .penalty) (now (scratch .entry)) in
+        let before = here.innerOf counts (now (w .entry)) (now (fit .entry)) (here.keptHere shape settings (now (scratch .entry))) in
+        let after = here.innerOf r (now (w .exit)) (now (fit .exit)) (here.keptHere shape settings (now (scratch .exit))) in
+        (after ≡ def.accelerated T (now (y .entry)) settings (now (ws .entry)) e before (pointOf (now (w .entry)) (now (fit .entry))))
         × (take (shape .p + shape .p) (now (scratch .exit)) ≡ take (shape .p + shape .p) (now (scratch .entry)))
         × (r .epochs ≤ counts .epochs + 1)
-        × (r .extrapolations ≤ counts .extrapolations + 1) ⌝ }
+        × (r .extrapolations ≤ counts .extrapolations + 1)) ⌝ }
 {
     let penalty = settings.penalty;
     if settings.extrapolate {
@@ -145,11 +154,16 @@ fn run_epoch(
     scratch: &mut [f64],
     counts: Counts,
 ) -> InnerStep
-    requires { ⌜ here.Ready shape (now starts) (now rows) (now values) (now y) settings (now w) (now fit) (now scratch) × here.Features shape (now ws) × here.Counted 1000000000 counts ⌝ }
-    ensures { λ r. ⌜ (here.innerStage r (now (w .exit)) (now (fit .exit)) (here.keptHere shape settings (now (scratch .exit))) ≡ def.epoch (here.taskOf shape (now (starts .entry)) (now (rows .entry)) (now (values .entry)) settings (now (scratch .entry))) (now (y .entry)) settings (now (ws .entry)) outer e (here.innerOf counts (now (w .entry)) (now (fit .entry)) (here.keptHere shape settings (now (scratch .entry)))))
+    requires { ⌜ here.Ready (given shape (now starts) (now rows) (now values) (now y)) settings (now w) (now fit) (now scratch)
+        × here.Features shape (now ws) × here.Counted 1000000000 counts ⌝ }
+    ensures { λ r. ⌜ (let g = given shape (now (starts .entry)) (now (rows .entry)) (now (values .entry)) (now (y .entry)) in
+        let T = taskIn g (settings .penalty) (now (scratch .entry)) in
+        let before = here.innerOf counts (now (w .entry)) (now (fit .entry)) (here.keptHere shape settings (now (scratch .entry))) in
+        let after = here.innerStage r (now (w .exit)) (now (fit .exit)) (here.keptHere shape settings (now (scratch .exit))) in
+        (after ≡ def.epoch T (now (y .entry)) settings (now (ws .entry)) outer e before)
         × (take (shape .p + shape .p) (now (scratch .exit)) ≡ take (shape .p + shape .p) (now (scratch .entry)))
         × (here.countsOf r counts .epochs ≤ counts .epochs + 1)
-        × (here.countsOf r counts .extrapolations ≤ counts .extrapolations + 1) ⌝ }
+        × (here.countsOf r counts .extrapolations ≤ counts .extrapolations + 1)) ⌝ }
 {
     let twice = shape.p + shape.p;
     let penalty = settings.penalty;
@@ -204,11 +218,16 @@ pub fn run_epochs(
     scratch: &mut [f64],
     from: Counts,
 ) -> InnerStep
-    requires { ⌜ here.Ready shape (now starts) (now rows) (now values) (now y) settings (now w) (now fit) (now scratch) × here.Features shape (now ws) × here.Counted 100000000 from ⌝ }
-    ensures { λ r. ⌜ (here.innerStage r (now (w .exit)) (now (fit .exit)) (here.keptHere shape settings (now (scratch .exit))) ≡ def.epochs (here.taskOf shape (now (starts .entry)) (now (rows .entry)) (now (values .entry)) settings (now (scratch .entry))) (now (y .entry)) settings (now (ws .entry)) outer (here.innerOf from (now (w .entry)) (now (fit .entry)) (here.keptHere shape settings (now (scratch .entry)))))
+    requires { ⌜ here.Ready (given shape (now starts) (now rows) (now values) (now y)) settings (now w) (now fit) (now scratch)
+        × here.Features shape (now ws) × here.Counted 100000000 from ⌝ }
+    ensures { λ r. ⌜ (let g = given shape (now (starts .entry)) (now (rows .entry)) (now (values .entry)) (now (y .entry)) in
+        let T = taskIn g (settings .penalty) (now (scratch .entry)) in
+        let before = here.innerOf from (now (w .entry)) (now (fit .entry)) (here.keptHere shape settings (now (scratch .entry))) in
+        let after = here.innerStage r (now (w .exit)) (now (fit .exit)) (here.keptHere shape settings (now (scratch .exit))) in
+        (after ≡ def.epochs T (now (y .entry)) settings (now (ws .entry)) outer before)
         × (take (shape .p + shape .p) (now (scratch .exit)) ≡ take (shape .p + shape .p) (now (scratch .entry)))
         × (here.countsOf r from .epochs ≤ from .epochs + 100000)
-        × (here.countsOf r from .extrapolations ≤ from .extrapolations + 100000) ⌝ }
+        × (here.countsOf r from .extrapolations ≤ from .extrapolations + 100000)) ⌝ }
 {
     let mut counts = from;
     let mut e = 0;

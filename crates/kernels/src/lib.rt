@@ -10,9 +10,9 @@ use codes::tell_verdict;
 use columns::column_dot;
 use columns::column_update;
 use designs::Feature;
-use doubles::Verdict;
 use designs::inner::sizes_agree;
 use doubles::Refusal;
+use doubles::Verdict;
 use doubles::inner::both;
 
 // 1 and 3, where the list that the column meets has so many places.

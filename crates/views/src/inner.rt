@@ -11,9 +11,9 @@ ghost use Rattle.views.specs.Check.{designFault};
 use designs::Feature;
 use designs::Layout;
 use designs::Shape;
-use doubles::Verdict;
 use designs::inner::admit;
 use doubles::Number;
+use doubles::Verdict;
 use runs::Fit;
 use runs::Settings;
 

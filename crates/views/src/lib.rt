@@ -9,8 +9,8 @@ ghost use Rattle.runs.specs.Call as call;
 ghost use Rattle.solvers.specs.Buffers.{lent};
 ghost use Rattle.views.specs.Check.{designFault};
 use designs::Feature;
-use doubles::Verdict;
 use doubles::Number;
+use doubles::Verdict;
 use runs::Fit;
 use runs::Settings;
 

@@ -12,12 +12,10 @@ use lib.Ieee.{Float, le, lt}
 use Rattle.doubles.specs.Num.{_⊗_, pick, _and_}
 use Rattle.doubles.specs.Steps.{Stage, going, stopped, bad}
 use Rattle.doubles.proofs.Laws.Steps.{picked, not-picked}
-use Rattle.doubles.specs.Answer.{Outcome, refused, answered}
-use Rattle.systems.specs.Answer.{Ended, singular, solved}
-use Rattle.systems.specs.Elimination.{solveCall}
+use Rattle.systems.specs.Elimination.{eliminated, regular, readOff}
 use Rattle.designs.specs.declared.Shape.{Shape}
 use Rattle.runs.specs.Epoch.{Task, Point, knownIn, worstIn, visits}
-use Rattle.runs.specs.Extrapolation.{Tried, keeps, better, chosen, pointOf as candidatePoint, candidate, coefficients, system, fromSolution, extrapolate, due, tried, keptNow}
+use Rattle.runs.specs.Extrapolation.{Tried, keeps, better, chosen, candidateOf, system, fromSystem, extrapolate, due, tried, keptNow}
 use Rattle.runs.specs.Run.{Inner, #0·3, accelerated, enough, checked, checks, settled, epoch}
 use Rattle.runs.specs.declared.Settings.{Settings}
 use Rattle.anderson.specs.Places.{keptIn, pointOf, triedOf}
@@ -37,18 +35,14 @@ module _ (T : Task) (y : List Float) (K : ℕ) (ws : List ℕ) (kept : List Floa
       go true = le-refl 1
       go false = omega arith
 
-  from-few : (o : Outcome Ended) (z : List Float) → fromSolution T y K ws kept s o z .taken ≤ 1
-  from-few (answered solved) z = chosen-few (candidatePoint T ws (candidate K (T .p) ws kept (coefficients K z)))
-  from-few (answered singular) z = omega arith
-  from-few (refused n p) z = omega arith
-
   tried-few : (e : ℕ) → tried T y K e ws kept s .taken ≤ 1
-  unfolding tried extrapolate
-  tried-few e = go (due K e ws)
+  unfolding tried extrapolate fromSystem
+  tried-few e = go (due K e ws) (regular K (eliminated K (system K (T .p) kept))) (candidateOf T K ws kept (readOff K (eliminated K (system K (T .p) kept))))
     where
-      go : (b : Bool) → pick b (extrapolate T y K ws kept s) (keeps s) .taken ≤ 1
-      go true = from-few (solveCall K (system K (T .p) kept) .ending) (solveCall K (system K (T .p) kept) .z)
-      go false = omega arith
+      go : (b r : Bool) (new : Point) → pick b (pick r (chosen T y new s) (keeps s)) (keeps s) .taken ≤ 1
+      go true true new = chosen-few new
+      go true false new = omega arith
+      go false r new = omega arith
 
   pub taken-few : (e r : ℕ) (w fit : List Float) → triedOf r w fit ≡ tried T y K e ws kept s → r ≤ 1
   taken-few e r w fit q = le-trans (le-of-eq (ap (λ (t : Tried). t .taken) q)) (tried-few e)

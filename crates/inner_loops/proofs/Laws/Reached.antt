@@ -7,10 +7,12 @@ use lib.ListN.{length, take}
 use lib.Ieee.{Float}
 use Rattle.doubles.specs.Steps.{going, upto}
 use Rattle.doubles.proofs.Laws.Steps.{steps-none, steps-all, upto-more, upto-over}
+use Rattle.designs.specs.Given.{Given}
 use Rattle.designs.specs.declared.Shape.{Shape}
 use Rattle.runs.specs.Run.{epoch, epochs}
 use Rattle.runs.specs.declared.Settings.{Settings}
-use Rattle.inner_loops.specs.Reading.{taskOf, keptHere, innerOf, innerStage, countsOf}
+use Rattle.anderson.specs.Places.{taskIn}
+use Rattle.inner_loops.specs.Reading.{keptHere, innerOf, innerStage, countsOf}
 use Rattle.inner_loops.specs.declared.Counts.{Counts}
 use Rattle.inner_loops.specs.declared.InnerStep.{InnerStep}
 use Rattle.inner_loops.specs.declared.InnerStep.the-variants as Inner'
@@ -22,29 +24,31 @@ pub record Held (s : Shape) (w₀ fit₀ scratch₀ w fit scratch : List Float) 
   pub room : length scratch ≡ length scratch₀
   pub prepared : take (s .p + s .p) scratch ≡ take (s .p + s .p) scratch₀
 
-module _ (s : Shape) (starts rows : List ℕ) (values y : List Float) (S : Settings) (ws : List ℕ) (outer : Float) where
+module _ (g : Given) (S : Settings) (ws : List ℕ) (outer : Float) where
   -- what is promised of one epoch, and of the loop
   abbrev pub EpochLeft : ℕ → Counts → List Float → List Float → List Float → InnerStep → List Float → List Float → List Float → Type 0
   EpochLeft e c w fit scratch r w' fit' scratch' =
-      (innerStage r w' fit' (keptHere s S scratch') ≡ epoch (taskOf s starts rows values S scratch) y S ws outer e (innerOf c w fit (keptHere s S scratch)))
-      × (take (s .p + s .p) scratch' ≡ take (s .p + s .p) scratch)
+      (innerStage r w' fit' (keptHere (g .shape) S scratch')
+      ≡ epoch (taskIn g (S .penalty) scratch) (g .targets) S ws outer e (innerOf c w fit (keptHere (g .shape) S scratch)))
+      × (take (g .shape .p + g .shape .p) scratch' ≡ take (g .shape .p + g .shape .p) scratch)
       × (countsOf r c .epochs ≤ c .epochs + 1)
       × (countsOf r c .extrapolations ≤ c .extrapolations + 1)
 
   abbrev pub EpochsLeft : Counts → List Float → List Float → List Float → InnerStep → List Float → List Float → List Float → Type 0
   EpochsLeft c w fit scratch r w' fit' scratch' =
-      (innerStage r w' fit' (keptHere s S scratch') ≡ epochs (taskOf s starts rows values S scratch) y S ws outer (innerOf c w fit (keptHere s S scratch)))
-      × (take (s .p + s .p) scratch' ≡ take (s .p + s .p) scratch)
+      (innerStage r w' fit' (keptHere (g .shape) S scratch')
+      ≡ epochs (taskIn g (S .penalty) scratch) (g .targets) S ws outer (innerOf c w fit (keptHere (g .shape) S scratch)))
+      × (take (g .shape .p + g .shape .p) scratch' ≡ take (g .shape .p + g .shape .p) scratch)
       × (countsOf r c .epochs ≤ c .epochs + 100000)
       × (countsOf r c .extrapolations ≤ c .extrapolations + 100000)
 
   -- after e epochs
   pub record Reached (c₀ : Counts) (w₀ fit₀ scratch₀ : List Float) (e : ℕ) (c : Counts) (w fit scratch : List Float) : Type 0 where
-    pub held : Held s w₀ fit₀ scratch₀ w fit scratch
+    pub held : Held (g .shape) w₀ fit₀ scratch₀ w fit scratch
     pub epochs : c .epochs ≤ c₀ .epochs + e
     pub extrapolations : c .extrapolations ≤ c₀ .extrapolations + e
-    pub stage : going (innerOf c w fit (keptHere s S scratch))
-        ≡ upto (epoch (taskOf s starts rows values S scratch₀) y S ws outer) e (innerOf c₀ w₀ fit₀ (keptHere s S scratch₀))
+    pub stage : going (innerOf c w fit (keptHere (g .shape) S scratch))
+        ≡ upto (epoch (taskIn g (S .penalty) scratch₀) (g .targets) S ws outer) e (innerOf c₀ w₀ fit₀ (keptHere (g .shape) S scratch₀))
 
   pub reached-none : (c : Counts) (w fit scratch : List Float) → Reached c w fit scratch 0 c w fit scratch
   reached-none c w fit scratch = record {
@@ -57,11 +61,12 @@ module _ (s : Shape) (starts rows : List ℕ) (values y : List Float) (S : Setti
   module _ {c₀ : Counts} {w₀ fit₀ scratch₀ : List Float} {e : ℕ} {c : Counts} {w fit scratch : List Float}
       (R : Reached c₀ w₀ fit₀ scratch₀ e c w fit scratch) where
     module _ (r : InnerStep) (w' fit' scratch' : List Float) (E : EpochLeft e c w fit scratch r w' fit' scratch') where
-      kept-prepared : take (s .p + s .p) scratch' ≡ take (s .p + s .p) scratch₀
+      kept-prepared : take (g .shape .p + g .shape .p) scratch' ≡ take (g .shape .p + g .shape .p) scratch₀
       kept-prepared = E .1 ∙ R .held .prepared
 
       -- the same epoch, of the numbers prepared at first
-      from-first : innerStage r w' fit' (keptHere s S scratch') ≡ epoch (taskOf s starts rows values S scratch₀) y S ws outer e (innerOf c w fit (keptHere s S scratch))
+      from-first : innerStage r w' fit' (keptHere (g .shape) S scratch')
+          ≡ epoch (taskIn g (S .penalty) scratch₀) (g .targets) S ws outer e (innerOf c w fit (keptHere (g .shape) S scratch))
       from-first = rw (R .held .prepared) at (E .0)
 
       pub reached-more : (d : Counts) → r ≡ Inner'.Going d → length w' ≡ length w → length fit' ≡ length fit → length scratch' ≡ length scratch

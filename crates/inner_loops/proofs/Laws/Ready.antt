@@ -8,11 +8,12 @@ use mathlib.Core.List.{List}
 use lib.ListN.{length}
 use lib.Ieee.{Float}
 use Rattle.doubles.specs.Num.{pick}
+use Rattle.designs.specs.Given.{Given}
 use Rattle.designs.specs.declared.Shape.{Shape}
 use Rattle.runs.specs.Call.{scratchRoom}
 use Rattle.runs.specs.declared.Settings.{Settings}
-use Rattle.runs.proofs.Laws.Settings.{shallow}
-use Rattle.anderson.specs.Places as places
+use Rattle.runs.proofs.Laws.Settings.{deep, shallow}
+use Rattle.anderson.specs.Places.{StepReady}
 use Rattle.anderson.proofs.Laws.Scratch.{old-behind, room-split}
 use Rattle.inner_loops.specs.Reading.{Ready, Features}
 
@@ -34,17 +35,16 @@ module _ (s : Shape) (S : Settings) where
           omega arith
       go false = omega arith
 
-module _ {s : Shape} {starts rows : List ℕ} {values y : List Float} {S : Settings} {w fit scratch : List Float}
-    (R : Ready s starts rows values y S w fit scratch) where
-  pub room-for : s .p + s .p + s .p ≤ length scratch
-  room-for = le-trans (room-thrice s S) (le-of-eq (sym (R .room)))
+module _ {g : Given} {S : Settings} {w fit scratch : List Float} (R : Ready g S w fit scratch) where
+  pub room-for : g .shape .p + g .shape .p + g .shape .p ≤ length scratch
+  room-for = le-trans (room-thrice (g .shape) S) (le-of-eq (sym (R .room)))
 
-  pub room-twice : s .p + s .p ≤ length scratch
+  pub room-twice : g .shape .p + g .shape .p ≤ length scratch
   room-twice = let q = room-for in omega arith
 
   -- buffers of the same lengths are as ready
   pub ready-still : (w' fit' scratch' : List Float) → length w' ≡ length w → length fit' ≡ length fit → length scratch' ≡ length scratch
-      → Ready s starts rows values y S w' fit' scratch'
+      → Ready g S w' fit' scratch'
   ready-still w' fit' scratch' ew ef es = record {
     whole = R .whole;
     samples = R .samples;
@@ -57,15 +57,16 @@ module _ {s : Shape} {starts rows : List ℕ} {values y : List Float} {S : Setti
   }
 
   -- with extrapolation on, its step may be taken
-  pub step-ready : {ws : List ℕ} → Features s ws → S .extrapolate ≡ true → places.Ready s starts rows values y (S .depth) ws w fit scratch
+  pub step-ready : {ws : List ℕ} → Features (g .shape) ws → S .extrapolate ≡ true → StepReady g (S .depth) ws w fit scratch
   step-ready F on = record {
     sized = record {
       whole = R .whole;
       samples = R .samples;
       features = R .features;
+      deep = deep S (R .legal) on;
       shallow = shallow S (R .legal) on;
       weights = R .weights;
-      room = R .room ∙ room-on s S on;
+      room = R .room ∙ room-on (g .shape) S on;
       few = F .few;
       below = F .below;
     };

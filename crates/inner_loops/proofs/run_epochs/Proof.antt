@@ -3,6 +3,7 @@ use Prim.Native.Nat.{_≤_, _-_}
 use native.Mathlib.Omega.{arith}
 use borrow.Author.Needs.{needs}
 use Rattle.runs.proofs.Laws.Settings.{few-epochs}
+use Rattle.designs.specs.Given.{given}
 use Rattle.inner_loops.proofs.Laws.Ready.{ready-still}
 use Rattle.inner_loops.proofs.Laws.Reached.{Reached, reached-none, reached-more, reached-stopped, reached-bad, reached-all}
 use mathlib.Core.Path.{_∙_}
@@ -10,13 +11,14 @@ use Rattle.inner_loops.proofs.run_epochs.Statement.{statement}
 use Rattle.inner_loops.proofs.run_epochs.Tie as tie
 
 abbrev Inv-loop : tie.InvT-loop
-Inv-loop shape starts rows values y settings outer ws w₀ fit₀ scratch₀ counts₀ e₀ w fit scratch counts e = (e ≤ settings .epochs) × Reached shape starts rows values y settings ws outer counts₀ w₀ fit₀ scratch₀ e counts w fit scratch
+Inv-loop shape starts rows values y settings outer ws w₀ fit₀ scratch₀ counts₀ e₀ w fit scratch counts e =
+    (e ≤ settings .epochs) × Reached (given shape starts rows values y) settings ws outer counts₀ w₀ fit₀ scratch₀ e counts w fit scratch
 
 abbrev μ-loop : tie.MeasureT-loop
 μ-loop shape starts rows values y settings outer ws w₀ fit₀ scratch₀ counts₀ e₀ w fit scratch counts e = settings .epochs - e
 
 loop-holds : tie.Need-loop-holds Inv-loop μ-loop
-loop-holds c = (search needs, reached-none _ _ _ _ _ _ _ _ _ _ _ _)
+loop-holds c = (search needs, reached-none _ _ _ _ _ _ _ _)
 
 run-epoch-requires : tie.Need-run-epoch-requires Inv-loop μ-loop
 run-epoch-requires c κs =
@@ -68,7 +70,7 @@ returns c =
     let at-if1 = at-run-epoch .before .before .before .before in
     let at-loop = at-if1 .before .before in
     let entry = at-loop .before .before .before .before .before .before .before .before .before in
-    reached-stopped _ _ _ _ _ _ _ _ (at-loop .loop .inv .1) _ _ _ _ (at-run-epoch .run-epoch .ensures) (at-if1 .if1 .taken)
+    reached-stopped _ _ _ _ (at-loop .loop .inv .1) _ _ _ _ (at-run-epoch .run-epoch .ensures) (at-if1 .if1 .taken)
     (few-epochs _ (entry .pre .0 .legal)) _ (c .before .c2 .given .1)
 
 enum-told : tie.Need-enum-told Inv-loop μ-loop
@@ -98,7 +100,7 @@ returns-2 c =
     let at-if1 = at-run-epoch .before .before .before .before in
     let at-loop = at-if1 .before .before in
     let entry = at-loop .before .before .before .before .before .before .before .before .before in
-    reached-bad _ _ _ _ _ _ _ _ (at-loop .loop .inv .1) _ _ _ _ (at-run-epoch .run-epoch .ensures) (at-if1 .if1 .taken)
+    reached-bad _ _ _ _ (at-loop .loop .inv .1) _ _ _ _ (at-run-epoch .run-epoch .ensures) (at-if1 .if1 .taken)
     (few-epochs _ (entry .pre .0 .legal)) (c .enum-told .given .1)
 
 add-e : tie.Need-add-e Inv-loop μ-loop
@@ -110,7 +112,7 @@ loop-less c = search needs
 loop-again : tie.Need-loop-again Inv-loop μ-loop
 loop-again c = (
   search needs,
-  reached-more _ _ _ _ _ _ _ _
+  reached-more _ _ _ _
       (c .before .before .before .before .before .before .before .before .before .before .before .before .before .before .before .loop .inv .1)
       _ _ _ _ (c .before .before .before .before .before .before .before .before .before .run-epoch .ensures) _ (c .before .c .given .1)
       (c .before .before .before .before .before .before .before .before .before .run-epoch .kept .1 .1 .1 .1 .1 .1 .1 .1 .1 .0)
@@ -130,7 +132,7 @@ same-length-9 c = c .before .before .loop .inv .1 .held .room
 returns-3 : tie.Need-returns-3 Inv-loop μ-loop
 returns-3 c =
     let entry = c .before .before .before .before .before .before .before .before .before .before .before in
-    reached-all _ _ _ _ _ _ _ _ (c .before .before .loop .inv .1) (c .before .before .loop .inv .0) (c .if1 .left)
+    reached-all _ _ _ _ (c .before .before .loop .inv .1) (c .before .before .loop .inv .0) (c .if1 .left)
     (few-epochs _ (entry .pre .0 .legal))
 
 pub run-epochs-spec : {M : Type 1} → statement M

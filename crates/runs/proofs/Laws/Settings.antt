@@ -1,7 +1,7 @@
 -- What settings say that have no fault: one test after the other is taken off. Assumes nothing.
 use mathlib.Core.Path.{_≡_}
 use mathlib.Core.Bool.{true}
-use Prim.Native.Nat.{_≤_}
+use Prim.Native.Nat.{_≤_, _<_}
 use lib.Dec.{leb}
 use borrow.Author.Tests.{leb-true}
 use Rattle.doubles.specs.Num.{_and_}
@@ -33,6 +33,10 @@ module _ (S : Settings) (h : settingsFault S ≡ none) where
 
   pub few-epochs : S .epochs ≤ 100000
   few-epochs = leb-true (S .epochs) 100000 (behind-epochs .0)
+
+  pub deep : S .extrapolate ≡ true → 0 < S .depth
+  unfolding depthLegal
+  deep on = leb-true 1 (S .depth) (and-both (leb 1 (S .depth)) (leb (S .depth) 10) (rw on at (behind-depth .0)) .0)
 
   pub shallow : S .extrapolate ≡ true → S .depth ≤ 10
   unfolding depthLegal
