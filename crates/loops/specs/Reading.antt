@@ -8,11 +8,14 @@ use Rattle.doubles.specs.Num.{#0, pick}
 use Rattle.doubles.specs.Steps.{tab, Stage, going, stopped, bad}
 use Rattle.designs.specs.declared.Shape.{Shape}
 use Rattle.runs.specs.Run.{State}
+use Rattle.runs.specs.Call.{End, untouched, givenUp, done}
 use Rattle.runs.specs.declared.Settings.{Settings}
 use Rattle.inner_loops.specs.Reading.{keptHere, innerOf, Counted}
 use Rattle.loops.specs.declared.Totals.{Totals}
 use Rattle.loops.specs.declared.OuterStep.{OuterStep}
 use Rattle.loops.specs.declared.OuterStep.the-variants as Outer'
+use Rattle.loops.specs.declared.RunEnd.{RunEnd}
+use Rattle.loops.specs.declared.RunEnd.the-variants as RunEnd
 
 -- before the first epoch nothing is kept
 abbrev pub nothingKept : Shape → Settings → List Float
@@ -25,6 +28,9 @@ violationsIn s scratch = take (s .p) (drop (s .p + s .p) scratch)
 -- ---- the outer loop, and the working sets that were built
 abbrev pub stateOf : Totals → List Float → List Float → List Float → List (List ℕ) → State
 stateOf c w fit kept sets = record { inner = innerOf (c .counts) w fit kept; violation = c .violation; iterations = c .iterations; sets = sets }
+
+abbrev pub atViolation : Float → Totals → Totals
+atViolation v c = record { violation = v; iterations = c .iterations; counts = c .counts }
 
 abbrev pub outerStage : OuterStep → List Float → List Float → List Float → List (List ℕ) → Stage State
 outerStage (Outer'.Going c) w fit kept sets = going (stateOf c w fit kept sets)
@@ -44,6 +50,19 @@ setsOf bad = []
 -- the buffers and the answer are that stage; its working sets stand in no buffer
 abbrev pub shows : Shape → Settings → OuterStep → List Float → List Float → List Float → Stage State → Type 0
 shows s S r w fit scratch d = outerStage r w fit (keptHere s S scratch) (setsOf d) ≡ d
+
+-- ---- how a run ends
+abbrev pub endOf : RunEnd → List Float → List Float → List Float → List (List ℕ) → End
+endOf (RunEnd.Done c) w fit kept sets = done (stateOf c w fit kept sets)
+endOf (RunEnd.GivenUp r) w fit kept sets = givenUp (r .number) (r .place)
+
+abbrev pub setsAt : End → List (List ℕ)
+setsAt (done s) = s .sets
+setsAt (givenUp number place) = []
+setsAt (untouched number place) = []
+
+abbrev pub showsEnd : Shape → Settings → RunEnd → List Float → List Float → List Float → End → Type 0
+showsEnd s S r w fit scratch d = endOf r w fit (keptHere s S scratch) (setsAt d) ≡ d
 
 -- ---- what the loop asks for
 -- counts of t iterations

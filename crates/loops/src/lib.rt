@@ -3,21 +3,23 @@
 ghost use mathlib.Core.Path.{_≡_};
 ghost use mathlib.Core.Bool.{true};
 ghost use mathlib.Core.List.{List};
-ghost use Prim.Native.Nat.{ℕ, _+_, _≤_};
-ghost use lib.Dec.{eqb};
-ghost use lib.Ieee.{le};
+ghost use Prim.Native.Nat.{ℕ, _+_, _≤_, _<_};
 ghost use lib.ListN.{length, take};
 ghost use Rattle.doubles.specs.Num as num;
 ghost use Rattle.doubles.specs.Steps.{all, tab};
+ghost use Rattle.designs.specs.Given.{given};
 ghost use Rattle.runs.specs.WorkingSet as set';
 ghost use Rattle.runs.specs.Epoch as ep;
 ghost use Rattle.runs.specs.Run as def;
 ghost use Rattle.runs.specs.Call as call;
+ghost use Rattle.anderson.specs.Places.{taskIn};
 ghost use Rattle.inner_loops.specs.Reading as inner;
 ghost use Rattle.loops.specs.Reading as here;
 ghost use Rattle.loops.specs.declared.OuterStep.the-variants.{Going};
+ghost use Rattle.loops.specs.declared.RunEnd.the-variants.{GivenUp};
 use columns::clear;
 use designs::Shape;
+use doubles::Refusal;
 use doubles::is_finite;
 use epochs::Worst;
 use epochs::opt_cond_violation;
@@ -40,6 +42,12 @@ pub enum OuterStep {
     Going(Totals),
     Stopped(Totals),
     Bad,
+}
+
+// How a run ends.
+pub enum RunEnd {
+    GivenUp(Refusal),
+    Done(Totals),
 }
 
 // ---- the outer loop
@@ -78,13 +86,18 @@ fn iterate(
     scratch: &mut [f64],
     totals: Totals,
 ) -> OuterStep
-    requires { ⌜ (let task = inner.taskOf shape (now starts) (now rows) (now values) settings (now scratch) in
-        inner.Ready shape (now starts) (now rows) (now values) (now y) settings (now w) (now fit) (now scratch)
-        × (length (now indices) ≡ shape .p) × here.Totalled 999 totals
-        × (here.violationsIn shape (now scratch) ≡ ep.violations task (now w) (now fit)) × (ep.allKnown task (now w) (now fit) ≡ true)) ⌝ }
-    ensures { λ r. ⌜ ((sets : List (List ℕ)) → here.shows shape settings r (now (w .exit)) (now (fit .exit)) (now (scratch .exit)) (def.iteration (inner.taskOf shape (now (starts .entry)) (now (rows .entry)) (now (values .entry)) settings (now (scratch .entry))) (now (y .entry)) settings v (here.stateOf totals (now (w .entry)) (now (fit .entry)) (inner.keptHere shape settings (now (scratch .entry))) sets)))
+    requires { ⌜ (let g = given shape (now starts) (now rows) (now values) (now y) in
+        let T = taskIn g (settings .penalty) (now scratch) in
+        inner.Ready g settings (now w) (now fit) (now scratch) × (length (now indices) ≡ shape .p) × here.Totalled 999 totals
+        × (here.violationsIn shape (now scratch) ≡ ep.violations T (now w) (now fit)) × (ep.allKnown T (now w) (now fit) ≡ true)) ⌝ }
+    ensures { λ r. ⌜ (let g = given shape (now (starts .entry)) (now (rows .entry)) (now (values .entry)) (now (y .entry)) in
+        let T = taskIn g (settings .penalty) (now (scratch .entry)) in
+        let kept = inner.keptHere shape settings (now (scratch .entry)) in
+        let before = here.stateOf totals (now (w .entry)) (now (fit .entry)) kept in
+        ((sets : List (List ℕ)) → here.shows shape settings r (now (w .exit)) (now (fit .exit)) (now (scratch .exit))
+        (def.iteration T (now (y .entry)) settings v (before sets)))
         × (take (shape .p + shape .p) (now (scratch .exit)) ≡ take (shape .p + shape .p) (now (scratch .entry)))
-        × here.Grown totals (here.totalsOf r totals) ⌝ }
+        × here.Grown totals (here.totalsOf r totals)) ⌝ }
 {
     let from = shape.p + shape.p;
     let to = from + shape.p;
@@ -112,17 +125,18 @@ fn iterate(
     }
 }
 
-// Whether turn t ends the run at the largest violation v.
-fn is_last(v: f64, settings: Settings, t: usize) -> bool
-    ensures { λ r. ⌜ r ≡ num._or_ (le v (settings .tolerance)) (eqb t (settings .iterations)) ⌝ }
+// The totals with the violation that was found last.
+fn at_violation(v: f64, totals: Totals) -> Totals
+    ensures { λ r. ⌜ r ≡ here.atViolation v totals ⌝ }
 {
-    if v <= settings.tolerance {
-        return true;
+    Totals {
+        violation: v,
+        iterations: totals.iterations,
+        counts: totals.counts,
     }
-    t == settings.iterations
 }
 
-// Turn t of the outer loop: the check, which may end the run, then an iteration. The last turn is the check alone.
+// A turn of the outer loop before the last: the check, which may end the run, then an iteration.
 fn turn(
     shape: Shape,
     starts: &[u32],
@@ -130,29 +144,29 @@ fn turn(
     values: &[f64],
     y: &[f64],
     settings: Settings,
-    t: usize,
     w: &mut [f64],
     fit: &mut [f64],
     indices: &mut [u32],
     scratch: &mut [f64],
     totals: Totals,
 ) -> OuterStep
-    requires { ⌜ inner.Ready shape (now starts) (now rows) (now values) (now y) settings (now w) (now fit) (now scratch) × (length (now indices) ≡ shape .p) × (t ≤ settings .iterations) × here.Totalled t totals ⌝ }
-    ensures { λ r. ⌜ ((sets : List (List ℕ)) → here.shows shape settings r (now (w .exit)) (now (fit .exit)) (now (scratch .exit)) (def.turn (inner.taskOf shape (now (starts .entry)) (now (rows .entry)) (now (values .entry)) settings (now (scratch .entry))) (now (y .entry)) settings t (here.stateOf totals (now (w .entry)) (now (fit .entry)) (inner.keptHere shape settings (now (scratch .entry))) sets)))
+    requires { ⌜ inner.Ready (given shape (now starts) (now rows) (now values) (now y)) settings (now w) (now fit) (now scratch)
+        × (length (now indices) ≡ shape .p) × here.Totalled 999 totals ⌝ }
+    ensures { λ r. ⌜ (let g = given shape (now (starts .entry)) (now (rows .entry)) (now (values .entry)) (now (y .entry)) in
+        let T = taskIn g (settings .penalty) (now (scratch .entry)) in
+        let kept = inner.keptHere shape settings (now (scratch .entry)) in
+        let before = here.stateOf totals (now (w .entry)) (now (fit .entry)) kept in
+        ((t : ℕ) → t < settings .iterations → (sets : List (List ℕ)) → here.shows shape settings r (now (w .exit)) (now (fit .exit)) (now (scratch .exit))
+        (def.turn T (now (y .entry)) settings t (before sets)))
         × (take (shape .p + shape .p) (now (scratch .exit)) ≡ take (shape .p + shape .p) (now (scratch .entry)))
-        × here.Totalled (t + 1) (here.totalsOf r totals) ⌝ }
+        × here.Grown totals (here.totalsOf r totals)) ⌝ }
 {
     let penalty = settings.penalty;
     match opt_cond_violation(shape, starts, rows, values, penalty, w, fit, scratch) {
         Worst::Bad => OuterStep::Bad,
         Worst::Is(v) => {
-            if is_last(v, settings, t) {
-                let counts = totals.counts;
-                return OuterStep::Stopped(Totals {
-                    violation: v,
-                    iterations: totals.iterations,
-                    counts: counts,
-                });
+            if v <= settings.tolerance {
+                return OuterStep::Stopped(at_violation(v, totals));
             }
             iterate(
                 shape,
@@ -172,6 +186,44 @@ fn turn(
     }
 }
 
+// Refusal 7.
+fn not_finite() -> RunEnd
+    ensures { λ r. ⌜ r ≡ GivenUp (record { number = 7; place = 0 }) ⌝ }
+{
+    RunEnd::GivenUp(Refusal {
+        number: 7,
+        place: 0,
+    })
+}
+
+// The last turn is the check alone.
+fn last_turn(
+    shape: Shape,
+    starts: &[u32],
+    rows: &[u32],
+    values: &[f64],
+    y: &[f64],
+    settings: Settings,
+    w: &[f64],
+    fit: &[f64],
+    scratch: &mut [f64],
+    totals: Totals,
+) -> RunEnd
+    requires { ⌜ inner.Ready (given shape (now starts) (now rows) (now values) (now y)) settings (now w) (now fit) (now scratch) ⌝ }
+    ensures { λ r. ⌜ (let g = given shape (now (starts .entry)) (now (rows .entry)) (now (values .entry)) (now (y .entry)) in
+        let T = taskIn g (settings .penalty) (now (scratch .entry)) in
+        let kept = inner.keptHere shape settings (now (scratch .entry)) in
+        let before = here.stateOf totals (now (w .entry)) (now (fit .entry)) kept in
+        (sets : List (List ℕ)) → here.showsEnd shape settings r (now (w .entry)) (now (fit .entry)) (now (scratch .exit))
+        (call.concluded (def.turn T (now (y .entry)) settings (settings .iterations) (before sets)))) ⌝ }
+{
+    let penalty = settings.penalty;
+    match opt_cond_violation(shape, starts, rows, values, penalty, w, fit, scratch) {
+        Worst::Bad => not_finite(),
+        Worst::Is(v) => RunEnd::Done(at_violation(v, totals)),
+    }
+}
+
 // The run, from zero weights and zero fit.
 fn run(
     shape: Shape,
@@ -184,9 +236,14 @@ fn run(
     fit: &mut [f64],
     indices: &mut [u32],
     scratch: &mut [f64],
-) -> OuterStep
-    requires { ⌜ inner.Ready shape (now starts) (now rows) (now values) (now y) settings (now w) (now fit) (now scratch) × (length (now indices) ≡ shape .p) × (now w ≡ tab (λ j. num.#0) (shape .p)) × (now fit ≡ tab (λ i. num.#0) (shape .n)) × (inner.keptHere shape settings (now scratch) ≡ here.nothingKept shape settings) ⌝ }
-    ensures { λ r. ⌜ here.shows shape settings r (now (w .exit)) (now (fit .exit)) (now (scratch .exit)) (def.run (inner.taskOf shape (now (starts .entry)) (now (rows .entry)) (now (values .entry)) settings (now (scratch .entry))) (now (y .entry)) settings) ⌝ }
+) -> RunEnd
+    requires { ⌜ inner.Ready (given shape (now starts) (now rows) (now values) (now y)) settings (now w) (now fit) (now scratch)
+        × (length (now indices) ≡ shape .p) × (now w ≡ tab (λ j. num.#0) (shape .p)) × (now fit ≡ tab (λ i. num.#0) (shape .n))
+        × (inner.keptHere shape settings (now scratch) ≡ here.nothingKept shape settings) ⌝ }
+    ensures { λ r. ⌜ (let g = given shape (now (starts .entry)) (now (rows .entry)) (now (values .entry)) (now (y .entry)) in
+        let T = taskIn g (settings .penalty) (now (scratch .entry)) in
+        here.showsEnd shape settings r (now (w .exit)) (now (fit .exit)) (now (scratch .exit))
+        (call.concluded (def.run T (now (y .entry)) settings))) ⌝ }
 {
     let mut totals = Totals {
         violation: 0.0,
@@ -197,7 +254,7 @@ fn run(
         },
     };
     let mut t = 0;
-    while t <= settings.iterations {
+    while t < settings.iterations {
         match turn(
             shape,
             starts,
@@ -205,7 +262,6 @@ fn run(
             values,
             y,
             settings,
-            t,
             w,
             fit,
             indices,
@@ -213,12 +269,23 @@ fn run(
             totals,
         ) {
             OuterStep::Going(c) => totals = c,
-            OuterStep::Stopped(c) => return OuterStep::Stopped(c),
-            OuterStep::Bad => return OuterStep::Bad,
+            OuterStep::Stopped(c) => return RunEnd::Done(c),
+            OuterStep::Bad => return not_finite(),
         }
         t += 1;
     }
-    OuterStep::Going(totals)
+    last_turn(
+        shape,
+        starts,
+        rows,
+        values,
+        y,
+        settings,
+        w,
+        fit,
+        scratch,
+        totals,
+    )
 }
 
 // ---- the preparation
@@ -266,9 +333,11 @@ pub fn solve(
     fit: &mut [f64],
     indices: &mut [u32],
     scratch: &mut [f64],
-) -> OuterStep
-    requires { ⌜ inner.Ready shape (now starts) (now rows) (now values) (now y) settings (now w) (now fit) (now scratch) × (length (now indices) ≡ shape .p) ⌝ }
-    ensures { λ r. ⌜ here.shows shape settings r (now (w .exit)) (now (fit .exit)) (now (scratch .exit)) (call.fitted shape (now (starts .entry)) (now (rows .entry)) (now (values .entry)) (now (y .entry)) settings) ⌝ }
+) -> RunEnd
+    requires { ⌜ inner.Ready (given shape (now starts) (now rows) (now values) (now y)) settings (now w) (now fit) (now scratch)
+        × (length (now indices) ≡ shape .p) ⌝ }
+    ensures { λ r. ⌜ (let g = given shape (now (starts .entry)) (now (rows .entry)) (now (values .entry)) (now (y .entry)) in
+        here.showsEnd shape settings r (now (w .exit)) (now (fit .exit)) (now (scratch .exit)) (call.fitted g settings)) ⌝ }
 {
     let twice = shape.p + shape.p;
     clear(w);
@@ -276,7 +345,7 @@ pub fn solve(
     clear(scratch);
     prepare(shape, starts, rows, values, y, &mut scratch[..twice]);
     if is_usable(&scratch[..twice], shape.p) {} else {
-        return OuterStep::Bad;
+        return not_finite();
     }
     run(
         shape,

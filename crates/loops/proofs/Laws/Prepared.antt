@@ -9,80 +9,80 @@ use lib.ListN.{length, take, drop, length-append, length-drop}
 use lib.Seq.{length-take-le, take-at, drop-append-add, drop-drop}
 use lib.Ieee.{Float}
 use Rattle.doubles.specs.Num.{#0, at, pick}
-use Rattle.doubles.specs.Steps.{bad, tab, all}
+use Rattle.doubles.specs.Steps.{tab, all}
 use Rattle.doubles.proofs.Laws.Steps.{steps-none, length-tab}
-use Rattle.designs.specs.Design.{design, prepared}
-use Rattle.designs.specs.declared.Shape.{Shape}
+use Rattle.designs.specs.Design.{prepared}
+use Rattle.designs.specs.Given.{Given, designOf}
 use Rattle.runs.specs.Run.{run}
-use Rattle.runs.specs.Call.{usable, solved, fitted}
+use Rattle.runs.specs.Call.{givenUp, concluded, usable, solved, fitted}
 use Rattle.runs.specs.declared.Settings.{Settings}
-use Rattle.anderson.specs.Places.{keptIn}
+use Rattle.anderson.specs.Places.{taskIn, keptIn}
 use Rattle.anderson.proofs.Laws.Scratch.{old-behind, room-split}
-use Rattle.inner_loops.specs.Reading.{taskOf, keptHere, Ready}
+use Rattle.inner_loops.specs.Reading.{keptHere, Ready}
 use Rattle.loops.specs.Reading.{nothingKept}
 use Rattle.inner_loops.proofs.Laws.Ready.{room-twice, room-on}
 use Rattle.doubles.proofs.Laws.Parts.{same-drop, same-take}
 
 -- z is the scratch cleared, q what came back in its first 2p places
-module _ {s : Shape} {starts rows : List ℕ} {values y : List Float} {S : Settings} {w fit scratch : List Float} (R : Ready s starts rows values y S w fit scratch)
+module _ {g : Given} {S : Settings} {w fit scratch : List Float} (R : Ready g S w fit scratch)
     (z : List Float) (ez : z ≡ tab (λ j. #0) (length scratch)) where
   cleared-long : length z ≡ length scratch
   cleared-long = ap length ez ∙ length-tab _ (length scratch)
 
-  pub cleared-room : s .p + s .p ≤ length z
+  pub cleared-room : g .shape .p + g .shape .p ≤ length z
   cleared-room = le-trans (room-twice R) (le-of-eq (sym cleared-long))
 
-  module _ (q : List Float) (hq : length q ≡ length (take (s .p + s .p) z)) where
-    q-long : length q ≡ s .p + s .p
-    q-long = hq ∙ length-take-le (s .p + s .p) z cleared-room
+  module _ (q : List Float) (hq : length q ≡ length (take (g .shape .p + g .shape .p) z)) where
+    q-long : length q ≡ g .shape .p + g .shape .p
+    q-long = hq ∙ length-take-le (g .shape .p + g .shape .p) z cleared-room
 
-    pub prepared-long : length (q ++ drop (s .p + s .p) z) ≡ length scratch
+    pub prepared-long : length (q ++ drop (g .shape .p + g .shape .p) z) ≡ length scratch
     prepared-long =
-        let a = length-append q (drop (s .p + s .p) z) in
-        let b = length-drop (s .p + s .p) z in
+        let a = length-append q (drop (g .shape .p + g .shape .p) z) in
+        let b = length-drop (g .shape .p + g .shape .p) z in
         let c = q-long in
         let d = cleared-long in
         let e = cleared-room in
         omega arith
 
-    pub prepared-room : s .p + s .p ≤ length (q ++ drop (s .p + s .p) z)
+    pub prepared-room : g .shape .p + g .shape .p ≤ length (q ++ drop (g .shape .p + g .shape .p) z)
     prepared-room = le-trans (room-twice R) (le-of-eq (sym prepared-long))
 
-    pub prepared-first : take (s .p + s .p) (q ++ drop (s .p + s .p) z) ≡ q
-    prepared-first = take-at q (drop (s .p + s .p) z) (s .p + s .p) q-long
+    pub prepared-first : take (g .shape .p + g .shape .p) (q ++ drop (g .shape .p + g .shape .p) z) ≡ q
+    prepared-first = take-at q (drop (g .shape .p + g .shape .p) z) (g .shape .p + g .shape .p) q-long
 
     -- no row is kept yet
-    rows-zero : S .extrapolate ≡ true → keptIn s (S .depth) (q ++ drop (s .p + s .p) z) ≡ tab (λ i. #0) (suc (S .depth) * s .p)
+    rows-zero : S .extrapolate ≡ true → keptIn (g .shape) (S .depth) (q ++ drop (g .shape .p + g .shape .p) z) ≡ tab (λ i. #0) (suc (S .depth) * g .shape .p)
     unfolding keptIn
     rows-zero on =
         let K = S .depth in
-        let p = s .p in
+        let p = g .shape .p in
         let a : 3 * p ≡ length q + p = let h = q-long in omega arith in
-        let n : length scratch ≡ (2 * K + 5) * p + s .n = R .room ∙ room-on s S on in
-        let r = room-split K p (s .n) in
+        let n : length scratch ≡ (2 * K + 5) * p + g .shape .n = R .room ∙ room-on (g .shape) S on in
+        let r = room-split K p (g .shape .n) in
         let b = old-behind K p in
         ap (λ (i : ℕ). take (suc K * p) (drop i (q ++ drop (p + p) z))) a
         ∙ ap (take (suc K * p)) (drop-append-add q (drop (p + p) z) p ∙ drop-drop p (p + p) z ∙ ap (drop (p + p + p)) ez ∙ same-drop #0 (p + p + p) (length scratch))
         ∙ same-take #0 (suc K * p) (length scratch - (p + p + p)) (omega arith)
 
-    pub prepared-kept : keptHere s S (q ++ drop (s .p + s .p) z) ≡ nothingKept s S
+    pub prepared-kept : keptHere (g .shape) S (q ++ drop (g .shape .p + g .shape .p) z) ≡ nothingKept (g .shape) S
     unfolding keptHere
     prepared-kept = go (S .extrapolate) refl
       where
         go : (b : Bool) → S .extrapolate ≡ b
-            → pick b (keptIn s (S .depth) (q ++ drop (s .p + s .p) z)) [] ≡ tab (λ i. #0) (pick b (suc (S .depth) * s .p) 0)
+            → pick b (keptIn (g .shape) (S .depth) (q ++ drop (g .shape .p + g .shape .p) z)) [] ≡ tab (λ i. #0) (pick b (suc (S .depth) * g .shape .p) 0)
         go true on = rows-zero on
         go false off = steps-none _ _
 
     -- ---- whether all columns are usable
-    module _ (eq : q ≡ prepared (design s starts rows values) y) (r : Bool)
-        (er : r ≡ all (λ j. usable (at (take (s .p + s .p) (q ++ drop (s .p + s .p) z)) j) (at (take (s .p + s .p) (q ++ drop (s .p + s .p) z)) (s .p + j))) (s .p)) where
-      by-usable : pick r (run (taskOf s starts rows values S (q ++ drop (s .p + s .p) z)) y S) bad ≡ fitted s starts rows values y S
+    module _ (eq : q ≡ prepared (designOf g) (g .targets)) (r : Bool)
+        (er : r ≡ all (λ j. usable (at (take (g .shape .p + g .shape .p) (q ++ drop (g .shape .p + g .shape .p) z)) j) (at (take (g .shape .p + g .shape .p) (q ++ drop (g .shape .p + g .shape .p) z)) (g .shape .p + j))) (g .shape .p)) where
+      by-usable : pick r (concluded (run (taskIn g (S .penalty) (q ++ drop (g .shape .p + g .shape .p) z)) (g .targets) S)) (givenUp 7 0) ≡ fitted g S
       unfolding fitted solved
       by-usable = rw (er, prepared-first, eq)
 
-      pub solved-bad : r ≡ false → bad ≡ fitted s starts rows values y S
-      solved-bad h = rw h at by-usable
+      pub solved-not-finite : r ≡ false → givenUp 7 0 ≡ fitted g S
+      solved-not-finite h = rw h at by-usable
 
-      pub solved-run : r ≡ true → run (taskOf s starts rows values S (q ++ drop (s .p + s .p) z)) y S ≡ fitted s starts rows values y S
+      pub solved-run : r ≡ true → concluded (run (taskIn g (S .penalty) (q ++ drop (g .shape .p + g .shape .p) z)) (g .targets) S) ≡ fitted g S
       solved-run h = rw h at by-usable

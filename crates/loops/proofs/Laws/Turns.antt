@@ -1,37 +1,40 @@
 -- One turn of the outer loop, from what its parts answer to its definition. Assumes nothing.
 use mathlib.Core.Path.{_≡_, refl, sym, ap, _∙_}
-use mathlib.Core.Bool.{Bool, true, false, false≢true}
+use mathlib.Core.Bool.{Bool, true, false}
 use Prim.Native.Nat.{ℕ, suc, _+_, _*_, _-_, _≤_, _<_}
-use native.Mathlib.Nat.{le-of-eq, le-trans, le-antisymm}
+use native.Mathlib.Nat.{le-of-eq, le-trans}
 use native.Mathlib.Omega.{arith}
 use mathlib.Core.List.{List, [], _∷_, _++_}
 use lib.Dec.{eqb, ltb}
 use lib.ListN.{length, take, drop}
 use lib.Seq.{take-at}
 use lib.Ieee.{Float, nan, le}
-use borrow.Author.Tests.{ltb-true, ltb-false, eqb-false}
+use borrow.Author.Tests.{ltb-false, eq-eqb, ne-eqb}
 use Rattle.doubles.specs.Num.{pick, finite, _or_}
-use Rattle.doubles.specs.Steps.{going, stopped, bad, andThen, tab}
+use Rattle.doubles.specs.Steps.{Stage, going, stopped, bad, andThen, tab}
 use Rattle.doubles.specs.Buffer.{put}
 use Rattle.doubles.proofs.Laws.Steps.{length-tab, getD-tab, all-each, picked, not-picked}
-use Rattle.doubles.proofs.Laws.Choice.{and-both}
+use Rattle.doubles.proofs.Laws.Choice.{and-both, or-true}
+use Rattle.designs.specs.Given.{Given}
 use Rattle.designs.specs.declared.Shape.{Shape}
 use Rattle.runs.specs.WorkingSet.{smaller, size, workingSet, padded}
 use Rattle.runs.specs.Epoch.{Task, gradientOf, violationOf, known, allKnown, violations, worst}
-use Rattle.runs.specs.Run.{epochs, chosenSet, iteration, turn}
+use Rattle.runs.specs.Run.{State, epochs, chosenSet, iteration, turn}
+use Rattle.runs.specs.Call.{concluded}
 use Rattle.runs.specs.declared.Settings.{Settings}
-use Rattle.anderson.specs.Places.{keptIn, pointOf}
+use Rattle.anderson.specs.Places.{taskIn, keptIn, pointOf}
 use Rattle.selection.specs.Inner.Heap.{Numbers}
 use Rattle.worksets.proofs.Laws.Sets.{size-most, length-workingSet, workingSet-each}
 use Rattle.epochs.specs.Reading.{Measured, measured}
-use Rattle.inner_loops.specs.Reading.{taskOf, keptHere, innerOf, innerStage, countsOf, Features}
-use Rattle.loops.specs.Reading.{stateOf, outerStage, setsOf, shows, violationsIn, Totalled, Grown}
+use Rattle.inner_loops.specs.Reading.{keptHere, innerOf, innerStage, countsOf, Features}
+use Rattle.loops.specs.Reading.{stateOf, atViolation, outerStage, setsOf, shows, showsEnd, violationsIn, Totalled, Grown}
 use Rattle.inner_loops.specs.declared.Counts.{Counts}
 use Rattle.loops.specs.declared.Totals.{Totals}
 use Rattle.inner_loops.specs.declared.InnerStep.{InnerStep}
 use Rattle.inner_loops.specs.declared.InnerStep.the-variants as Inner'
 use Rattle.loops.specs.declared.OuterStep.{OuterStep}
 use Rattle.loops.specs.declared.OuterStep.the-variants as Outer'
+use Rattle.loops.specs.declared.RunEnd.the-variants as RunEnd
 use Rattle.doubles.proofs.Laws.Parts.{part-at, part-behind}
 
 -- ---- the working set
@@ -142,43 +145,49 @@ module _ (T : Task) (y : List Float) (S : Settings) (t : ℕ) (c : Totals) (w fi
   unfolding turn measured
   turn-bad e = let h = not-picked (allKnown T w fit) _ e in rw h
 
+  -- the check ends the run at v, or an iteration follows
   module _ (v : Float) (m : List Float) (e : going (record { largest = v; scratch = m }) ≡ measured T w fit l) where
-    by-last : (b : Bool) → b ≡ (le v (S .tolerance) or eqb t (S .iterations))
-        → turn T y S t (stateOf c w fit kept sets)
-        ≡ pick b (stopped (stateOf (record { violation = v; iterations = c .iterations; counts = c .counts }) w fit kept sets)) (iteration T y S v (stateOf c w fit kept sets))
+    by-last : turn T y S t (stateOf c w fit kept sets)
+        ≡ pick (le v (S .tolerance) or eqb t (S .iterations)) (stopped (stateOf (atViolation v c) w fit kept sets)) (iteration T y S v (stateOf c w fit kept sets))
     unfolding turn
-    by-last b eb = rw (found T w fit l v m e .0, ← found-largest T w fit l v m e, ← eb)
+    by-last = rw (found T w fit l v m e .0, ← found-largest T w fit l v m e)
 
-    module _ (b : Bool) (eb : b ≡ (le v (S .tolerance) or eqb t (S .iterations))) where
-      pub turn-stops : b ≡ true → (kept' : List Float) → kept' ≡ kept
-          → outerStage (Outer'.Stopped (record { violation = v; iterations = c .iterations; counts = c .counts })) w fit kept' (setsOf (turn T y S t (stateOf c w fit kept sets)))
-          ≡ turn T y S t (stateOf c w fit kept sets)
-      turn-stops h kept' k = rw (by-last b eb, h, k)
+    pub turn-met : le v (S .tolerance) ≡ true → turn T y S t (stateOf c w fit kept sets) ≡ stopped (stateOf (atViolation v c) w fit kept sets)
+    unfolding _or_
+    turn-met h = rw h at by-last
 
-      pub turn-iterates : b ≡ false → turn T y S t (stateOf c w fit kept sets) ≡ iteration T y S v (stateOf c w fit kept sets)
-      turn-iterates h = rw h at (by-last b eb)
+    pub turn-ends : t ≡ S .iterations → turn T y S t (stateOf c w fit kept sets) ≡ stopped (stateOf (atViolation v c) w fit kept sets)
+    turn-ends h = rw (eq-eqb t (S .iterations) h, or-true (le v (S .tolerance))) at by-last
 
--- the iteration that follows is run on what the check left
-pub turn-goes-on : (s : Shape) (starts rows : List ℕ) (values y : List Float) (S : Settings) (t : ℕ) (c : Totals) (w fit l m : List Float) (v : Float)
-    → s .p + s .p + s .p ≤ length l → going (record { largest = v; scratch = m }) ≡ measured (taskOf s starts rows values S l) w fit l
-    → take (s .p + s .p) m ≡ take (s .p + s .p) l → (b : Bool) → b ≡ (le v (S .tolerance) or eqb t (S .iterations)) → b ≡ false
-    → (r : OuterStep) (w' fit' scratch' : List Float) (sets : List (List ℕ))
-    → shows s S r w' fit' scratch' (iteration (taskOf s starts rows values S m) y S v (stateOf c w fit (keptHere s S m) sets))
-    → shows s S r w' fit' scratch' (turn (taskOf s starts rows values S l) y S t (stateOf c w fit (keptHere s S l) sets))
-turn-goes-on s starts rows values y S t c w fit l m v room e p b eb h r w' fit' scratch' sets q =
-    let T = taskOf s starts rows values S l in
-    let k = kept-measured T s refl w fit l room m (found-scratch T w fit l v m e) S in
-    let i = turn-iterates T y S t c w fit (keptHere s S l) l sets v m e b eb h in
-    rw i (rw (p, k) at q)
+    pub turn-iterates : le v (S .tolerance) ≡ false → t < S .iterations → turn T y S t (stateOf c w fit kept sets) ≡ iteration T y S v (stateOf c w fit kept sets)
+    unfolding _or_
+    turn-iterates h l = rw (h, ne-eqb t (S .iterations) (λ q. omega (arith, q))) at by-last
 
-pub not-last : (x : Bool) (t n : ℕ) → (x or eqb t n) ≡ false → t ≤ n → n ≤ 1000 → t ≤ 999
-unfolding _or_
-not-last true t n e h k = absurd (false≢true (sym e))
-not-last false t n e h k = go (ltb t n) refl
-  where
-    go : (b : Bool) → ltb t n ≡ b → t ≤ 999
-    go true q = let z = ltb-true t n q in omega arith
-    go false q = absurd (eqb-false t n e (le-antisymm h (ltb-false t n q)))
+-- what a turn shows, over what the check left of the scratch
+module _ (g : Given) (S : Settings) (t : ℕ) (c : Totals) (w fit l m : List Float) (v : Float) (room : g .shape .p + g .shape .p + g .shape .p ≤ length l)
+    (e : going (record { largest = v; scratch = m }) ≡ measured (taskIn g (S .penalty) l) w fit l) (sets : List (List ℕ)) where
+  abbrev T : Task
+  T = taskIn g (S .penalty) l
+
+  abbrev Turn : Stage State
+  Turn = turn T (g .targets) S t (stateOf c w fit (keptHere (g .shape) S l) sets)
+
+  kept-checked : keptHere (g .shape) S m ≡ keptHere (g .shape) S l
+  kept-checked = kept-measured T (g .shape) refl w fit l room m (found-scratch T w fit l v m e) S
+
+  pub turn-stops : le v (S .tolerance) ≡ true → shows (g .shape) S (Outer'.Stopped (atViolation v c)) w fit m Turn
+  turn-stops h = rw (turn-met T (g .targets) S t c w fit (keptHere (g .shape) S l) l sets v m e h, kept-checked)
+
+  pub last-stops : t ≡ S .iterations → showsEnd (g .shape) S (RunEnd.Done (atViolation v c)) w fit m (concluded Turn)
+  last-stops h = rw (turn-ends T (g .targets) S t c w fit (keptHere (g .shape) S l) l sets v m e h, kept-checked)
+
+  -- the iteration that follows is run on what the check left
+  pub turn-goes-on : take (g .shape .p + g .shape .p) m ≡ take (g .shape .p + g .shape .p) l → le v (S .tolerance) ≡ false → t < S .iterations
+      → (r : OuterStep) (w' fit' scratch' : List Float)
+      → shows (g .shape) S r w' fit' scratch' (iteration (taskIn g (S .penalty) m) (g .targets) S v (stateOf c w fit (keptHere (g .shape) S m) sets))
+      → shows (g .shape) S r w' fit' scratch' Turn
+  turn-goes-on p h n r w' fit' scratch' q =
+      rw (turn-iterates T (g .targets) S t c w fit (keptHere (g .shape) S l) l sets v m e h n) (rw (p, kept-checked) at q)
 
 -- ---- what is counted
 pub totalled-more : (t : ℕ) (c d : Totals) → Totalled t c → Grown c d → Totalled (t + 1) d
@@ -197,7 +206,7 @@ pub grown-by : (c : Totals) (v : Float) (r : InnerStep) (d : Counts) → countsO
     → Grown c (record { violation = v; iterations = c .iterations + 1; counts = d })
 grown-by c v r d e a b = record { iterations = omega arith; epochs = rw e at a; extrapolations = rw e at b }
 
-pub grown-same : (c : Totals) (v : Float) → Grown c (record { violation = v; iterations = c .iterations; counts = c .counts })
+pub grown-same : (c : Totals) (v : Float) → Grown c (atViolation v c)
 grown-same c v = record { iterations = omega arith; epochs = omega arith; extrapolations = omega arith }
 
 pub grown-none : (c : Totals) → Grown c c
