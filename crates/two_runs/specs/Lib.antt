@@ -1,0 +1,2 @@
+-- What a reader believes of two runs that are compared.
+pub mod Alike
