@@ -28,7 +28,7 @@ use Rattle.runs.specs.Call.{Lent, fitFault, fitted, weightsOf, fitEntries, fitC
 use Rattle.runs.specs.declared.Report.{Report}
 use Rattle.runs.specs.declared.Settings.{Settings}
 use Rattle.runs.proofs.Laws.Passed.{passed}
-use Rattle.two_runs.specs.Alike.{Both, both-going, both-stopped, both-bad}
+use Rattle.two_runs.specs.Stages.{Both, both-going, both-stopped, both-bad}
 use Rattle.signs.specs.Turning.{SameRun, SameCall, turned, signsOf}
 use Rattle.signs.proofs.Laws.Exact.{signs-zeros}
 use Rattle.signs.proofs.SignLaw.{sign-law-passed, sign-law}

@@ -1,6 +1,6 @@
 -- Demand 3, proved of the definition of a whole call: refusals look at nothing that turns, and a run that is not refused turns step by step.
 -- Assumes nothing.
-use mathlib.Core.Path.{_≡_, refl, ap}
+use mathlib.Core.Path.{_≡_, refl}
 use mathlib.Core.Bool.{Bool, true, false}
 use mathlib.Core.List.{List}
 use Prim.Native.Nat.{ℕ, _≤_, _<_}
@@ -14,18 +14,16 @@ use Rattle.designs.specs.declared.Layout.{Layout}
 use Rattle.designs.specs.declared.Layout.the-variants.{Dense, Csc}
 use Rattle.designs.specs.declared.Shape.{Shape}
 use Rattle.designs.proofs.Laws.Layouts.{samples, features}
-use Rattle.runs.specs.Run.{State}
-use Rattle.runs.specs.Call.{Lent, fitFault, solved, fitted, reportOf, answer, fitCall}
-use Rattle.runs.specs.declared.Report.{Report}
+use Rattle.runs.specs.Call.{Lent, fitFault, solved, fitted, answer, fitCall}
 use Rattle.runs.specs.declared.Settings.{Settings}
 use Rattle.runs.proofs.Laws.Passed.{passed}
 use Rattle.runs.proofs.Laws.Settings.{penalty-legal}
-use Rattle.two_runs.specs.Alike.{Both, Alike}
-use Rattle.two_runs.proofs.Laws.Loops.{both-map}
-use Rattle.two_runs.proofs.TwoRuns.{two-solves, report-same, ended-same}
+use Rattle.two_runs.specs.Stages.{Both}
+use Rattle.two_runs.proofs.Laws.Loops.{stages-map}
+use Rattle.two_runs.proofs.TwoRuns.{ended-same}
 use Rattle.signs.specs.Turning.{Turning, SameRun, SameCall}
 use Rattle.signs.proofs.Laws.Columns.{with-values}
-use Rattle.signs.proofs.Laws.Steps.{turning, usable-same, signs-of, respects}
+use Rattle.signs.proofs.Laws.Steps.{Same, solved-turned}
 use Rattle.signs.proofs.Laws.Faults.{fault-same}
 
 -- ---- two designs of one shape differ in their values alone
@@ -34,28 +32,6 @@ alike : (l : Layout) (n p : ℕ) (starts rows : List ℕ) (values values' : List
 unfolding laid dense csc
 alike Dense n p starts rows values values' = refl
 alike Csc n p starts rows values values' = refl
-
--- ---- what demand 3 names of two runs that are alike, and the whole report
-abbrev Same : (ℕ → Bool) → Bool → Settings → State → State → Type 0
-Same c t S s s' = SameRun c t S s s' × (reportOf S s ≡ reportOf S s')
-
-same-run : (c : ℕ → Bool) (t : Bool) (X : Design) (other : ℕ → ℕ → Float) (S : Settings) {y y' : List Float} (sy : Signs (λ (i : ℕ). t) y y')
-    (entries : (j k : ℕ) → j < X .p → k < X .many j → Turned (c j) (X .value j k) (other j k)) (n : ℕ) (s s' : State)
-    → Alike (turning c t X other S sy entries n) s s' → Same c t S s s'
-same-run c t X other S sy entries n s s' u =
-    let r : reportOf S s ≡ reportOf S s' = report-same (turning c t X other S sy entries n) S u in (
-      record {
-        status = ap (λ (a : Report). a .status) r;
-        iterations = ap (λ (a : Report). a .iterations) r;
-        epochs = ap (λ (a : Report). a .epochs) r;
-        extrapolations = ap (λ (a : Report). a .extrapolations) r;
-        violation = ap (λ (a : Report). a .violation) r;
-        sets = ap (λ (a : State). a .sets) (u .same);
-        weights = signs-of c t X other S sy entries n (u .points .weights);
-        fit = u .points .other;
-      },
-      r,
-    )
 
 -- the columns need to be turned only where the call is not refused
 module _ {c σ : ℕ → Bool} {t : Bool} {s : Shape} {starts rows : List ℕ} {values values' y y' : List Float} {S : Settings} (b : Lent)
@@ -71,11 +47,7 @@ module _ {c σ : ℕ → Bool} {t : Bool} {s : Shape} {starts rows : List ℕ} {
       → Both (Same c t S)
       (solved (record { n = s .n; p = p; X = X; penalty = S .penalty; prepared = prepared X y }) y S)
       (solved (record { n = s .n; p = p; X = X'; penalty = S .penalty; prepared = prepared X' y' }) y' S)
-  solve p X X' other ep e h off o some few =
-      let h : (j k : ℕ) → j < X .p → k < X .many j → Turned (c j) (X .value j k) (other j k) = rw (← ep) at h in
-      rw (e, ← ep)
-      (both-map (Alike (turning c t X other S targets h (s .n))) (Same c t S) (same-run c t X other S targets h (s .n)) _ _
-      (two-solves (turning c t X other S targets h (s .n)) (usable-same c t X other S targets h (s .n)) (respects c t X other S targets h (s .n) o some few off)))
+  solve p X X' other ep e h off o some few = rw (e, ← ep) (solved-turned c t X other S targets (rw (← ep) at h) (s .n) o some few off)
 
   run-turned : fitFault s starts rows values y S b ≡ none → Both (Same c t S) (fitted s starts rows values y S) (fitted s starts rows values' y' S)
   unfolding fitted
@@ -92,12 +64,17 @@ module _ {c σ : ℕ → Bool} {t : Bool} {s : Shape} {starts rows : List ℕ} {
   unfolding fitCall
   answer-same = rw (← refusal-same) (go (fitFault s starts rows values y S b) refl)
     where
-      go : (f : Fault) → fitFault s starts rows values y S b ≡ f → answer f S (fitted s starts rows values y S) ≡ answer f S (fitted s starts rows values' y' S)
+      go : (f : Fault) → fitFault s starts rows values y S b ≡ f
+          → answer f S (fitted s starts rows values y S) ≡ answer f S (fitted s starts rows values' y' S)
       go none e = ended-same S (λ s s' u. u .1) _ _ (run-turned e)
       go (fault number place) e = refl
 
   pub sign-law-passed : SameCall c t s starts rows values values' y y' S b
-  sign-law-passed = record { refusal = refusal-same; answer = answer-same; run = λ e. both-map (Same c t S) (SameRun c t S) (λ s s' u. u .0) _ _ (run-turned e) }
+  sign-law-passed = record {
+    refusal = refusal-same;
+    answer = answer-same;
+    run = λ e. stages-map (Same c t S) (Same c t S) (SameRun c t S) (SameRun c t S) (λ s s' u. u .0) (λ s s' u. u .0) _ _ (run-turned e);
+  }
 
 pub sign-law : {c : ℕ → Bool} {t : Bool} {s : Shape} {starts rows : List ℕ} {values values' y y' : List Float} {S : Settings}
     → Turning c t s starts rows values values' y y' S → (b : Lent) → SameCall c t s starts rows values values' y y' S b

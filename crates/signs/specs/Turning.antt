@@ -18,7 +18,7 @@ use Rattle.designs.specs.declared.Shape.{Shape}
 use Rattle.runs.specs.Run.{State}
 use Rattle.runs.specs.Call.{Lent, fitFault, fitted, reportOf, fitCall}
 use Rattle.runs.specs.declared.Settings.{Settings}
-use Rattle.two_runs.specs.Alike.{Both}
+use Rattle.two_runs.specs.Stages.{Both}
 
 -- the second call is given the first one's numbers turned: column j where c j is true, and the targets where t is
 pub record Turning (c : ℕ → Bool) (t : Bool) (s : Shape) (starts rows : List ℕ) (values values' y y' : List Float) (S : Settings) : Type 0 where

@@ -19,7 +19,7 @@ use Rattle.runs.specs.Extrapolation.{allFinite}
 use Rattle.two_runs.proofs.Laws.Loops.{all-same}
 
 -- ---- signs
-pub unlike-self : (a : Bool) → unlike a a ≡ false
+unlike-self : (a : Bool) → unlike a a ≡ false
 unlike-self true = refl
 unlike-self false = refl
 
@@ -35,16 +35,17 @@ unlike-none false = refl
 
 -- ---- sums
 -- of products whose factors turn together
-pub sum-exact : (s : ℕ → Bool) (a a' b b' : ℕ → Float) (n : ℕ) → ((i : ℕ) → i < n → Turned (s i) (a i) (a' i)) → ((i : ℕ) → i < n → Turned (s i) (b i) (b' i))
+pub sum-exact : (s : Bool) (a a' b b' : ℕ → Float) (n : ℕ) → ((i : ℕ) → i < n → Turned s (a i) (a' i)) → ((i : ℕ) → i < n → Turned s (b i) (b' i))
     → sum (λ i. a i ⊗ b i) n ≡ sum (λ i. a' i ⊗ b' i) n
 sum-exact s a a' b b' n p q =
     same-exact
     (sum-never (λ i. a i ⊗ b i) n (λ i l. mul-fits binary64 (a i) (b i)))
     (sum-never (λ i. a' i ⊗ b' i) n (λ i l. mul-fits binary64 (a' i) (b' i)))
-    (sum-turned (λ i. a i ⊗ b i) (λ i. a' i ⊗ b' i) n (λ i l. rw (unlike-self (s i)) at (turned-mul binary64 (p i l) (q i l))))
+    (sum-turned (λ i. a i ⊗ b i) (λ i. a' i ⊗ b' i) n (λ i l. rw (unlike-self s) at (turned-mul binary64 (p i l) (q i l))))
 
 -- ---- lists
-pub signs-each : {s : ℕ → Bool} (xs ys : List Float) → length xs ≡ length ys → ((k : ℕ) → k < length xs → Turned (s k) (at xs k) (at ys k)) → Signs s xs ys
+pub signs-each : {s : ℕ → Bool} (xs ys : List Float) → length xs ≡ length ys → ((k : ℕ) → k < length xs → Turned (s k) (at xs k) (at ys k))
+    → Signs s xs ys
 signs-each [] [] e h = none
 signs-each [] (y ∷ ys) e h = absurd (omega (arith, e))
 signs-each (x ∷ xs) [] e h = absurd (omega (arith, e))

@@ -50,7 +50,9 @@ pub lipschitz-not-below : (X : Design) (j : ℕ) → 1 ≤ X .n → X .n ≤ 655
 unfolding lipschitz squares
 lipschitz-not-below X j a b =
     let c = count-above (X .n) a b in
-    div-not-below (squares X j) (count (X .n)) (sum-not-below (λ k. X .value j k ⊗ X .value j k) (X .many j) (λ k l. square-not-below (X .value j k))) (c .0) (c .1)
+    div-not-below (squares X j) (count (X .n))
+    (sum-not-below (λ k. X .value j k ⊗ X .value j k) (X .many j) (λ k l. square-not-below (X .value j k)))
+    (c .0) (c .1)
 
 pub or-else : (a b : Bool) → a or b ≡ true → a ≡ false → b ≡ true
 unfolding _or_

@@ -4,13 +4,11 @@
 use mathlib.Core.Path.{_≡_, refl, sym, ap, _∙_}
 use mathlib.Core.Bool.{Bool, true, false}
 use mathlib.Core.List.{List}
-use Prim.Native.Nat.{ℕ, suc, _+_, _*_, _%_, _≤_, _<_}
+use Prim.Native.Nat.{ℕ, suc, _+_, _*_, _≤_, _<_}
 use native.Mathlib.Omega.{arith}
-use lib.Dec.{eqb}
 use lib.ListN.{length, getD}
 use lib.Ieee.{Float, binary64, unlike, lt, eq}
-use borrow.Author.Tests.{leb-true}
-use Rattle.doubles.specs.Num.{_⊖_, _⊘_, #0, #1, count, at, finite, _and_, _or_}
+use Rattle.doubles.specs.Num.{_⊖_, _⊘_, #0, #1, count, at, finite, _or_}
 use Rattle.doubles.specs.Steps.{all}
 use Rattle.doubles.specs.Sign.{Turned, Signs}
 use Rattle.doubles.proofs.Laws.Choice.{and-both}
@@ -23,27 +21,38 @@ use Rattle.leaves.specs.Odd.{Odd}
 use Rattle.designs.proofs.Laws.Gradients.{gradient-turned}
 use Rattle.designs.specs.Design.{Design, lipschitz, prepared, movedAll, extrapolated, squaredError, datafit}
 use Rattle.runs.specs.Epoch.{Point, constant, gradientOf, violationOf, known, newWeight, fine, visited}
-use Rattle.runs.specs.Extrapolation.{U, entry, objectiveOf, objective, better, pointOf, due}
-use Rattle.runs.specs.Call.{usable, usableAt}
+use Rattle.runs.specs.Extrapolation.{U, entry, objectiveOf, objective, better, pointOf}
+use Rattle.runs.specs.Run.{State}
+use Rattle.runs.specs.Call.{usable, usableAt, solved, reportOf}
+use Rattle.runs.specs.declared.Report.{Report}
 use Rattle.runs.specs.declared.Settings.{Settings}
-use Rattle.two_runs.specs.Alike.{Pair, first, second, Weights, Points, Chosen, Rows, Respects}
-use Rattle.two_runs.proofs.Laws.Loops.{steps-related}
+use Rattle.two_runs.specs.Stages.{Both}
+use Rattle.two_runs.specs.Alike.{Pair, first, second, Weights, Points, Chosen, Rows, Respects, Alike}
+use Rattle.two_runs.proofs.Laws.Loops.{steps-related, stages-map}
+use Rattle.two_runs.proofs.TwoRuns.{two-solves, report-same}
+use Rattle.signs.specs.Turning.{SameRun}
 use Rattle.signs.proofs.Laws.Exact.{unlike-none, sum-exact, signs-each, finite-same, signs-zeros}
 use Rattle.signs.proofs.Laws.Columns.{with-values, dot-turned, squares-same, moved-turned, moved-by-turned, moved-finite-same}
 use Rattle.signs.proofs.Laws.Preparation.{constant-at, product-at, lipschitz-not-below, or-else, one-not-below}
 
-datafit-same : {t : Bool} {y y' v v' : List Float} → Signs (λ (i : ℕ). t) y y' → Signs (λ (i : ℕ). t) v v' → datafit y v (length y) ≡ datafit y' v' (length y')
+datafit-same : {t : Bool} {y y' v v' : List Float} → Signs (λ (i : ℕ). t) y y' → Signs (λ (i : ℕ). t) v v'
+    → datafit y v (length y) ≡ datafit y' v' (length y')
 unfolding datafit squaredError
 datafit-same {t} {y} {y'} {v} {v'} p q =
     let d : (i : ℕ) → i < length y → Turned t (at y i ⊖ at v i) (at y' i ⊖ at v' i) = λ i l. turned-sub binary64 (signs-at p i) (signs-at q i) in
-    rw (← signs-length p) (ap (λ (x : Float). x ⊘ count (2 * length y)) (sum-exact (λ (i : ℕ). t) _ _ _ _ (length y) d d))
+    rw (← signs-length p) (ap (λ (x : Float). x ⊘ count (2 * length y)) (sum-exact t _ _ _ _ (length y) d d))
+
+-- what demand 3 names of two runs that are alike, and their reports as a whole
+abbrev pub Same : (ℕ → Bool) → Bool → Settings → State → State → Type 0
+Same c t S s s' = SameRun c t S s s' × (reportOf S s ≡ reportOf S s')
 
 module _ (c : ℕ → Bool) (t : Bool) (X : Design) (other : ℕ → ℕ → Float) (S : Settings) {y y' : List Float} (sy : Signs (λ (i : ℕ). t) y y')
     (entries : (j k : ℕ) → j < X .p → k < X .many j → Turned (c j) (X .value j k) (other j k)) (n : ℕ) where
-  abbrev pub turning : Pair
+  abbrev turning : Pair
   turning = record {
     n = n;
     p = X .p;
+    penalty = S .penalty;
     settings = S;
     X = X;
     X' = with-values X other;
@@ -66,19 +75,20 @@ module _ (c : ℕ → Bool) (t : Bool) (X : Design) (other : ℕ → ℕ → Flo
   products-turned j l =
       rw (product-at X y j l, product-at (with-values X other) y' j l) (dot-turned X other j (c j) t (λ k m. entries j k l m) sy)
 
-  pub usable-same : (j : ℕ) → j < X .p → usableAt (first turning) j ≡ usableAt (second turning) j
+  usable-same : (j : ℕ) → j < X .p → usableAt (first turning) j ≡ usableAt (second turning) j
   unfolding usable
   usable-same j l = rw (constants-same j l, finite-turned (products-turned j l))
 
-  -- ---- gradients and violations
+  -- ---- gradients
   module _ {q q' : Point} (r : Points turning q q') (j : ℕ) (l : j < X .p) where
     gradient-of : Turned (unlike (c j) t) (gradientOf (first turning) (q .fit) j) (gradientOf (second turning) (q' .fit) j)
     unfolding gradientOf
     gradient-of =
-        gradient-turned X (with-values X other) j (q .fit) (q' .fit) refl (dot-turned X other j (c j) t (λ k m. entries j k l m) (r .other)) (products-turned j l)
+        gradient-turned X (with-values X other) j (q .fit) (q' .fit) refl
+        (dot-turned X other j (c j) t (λ k m. entries j k l m) (r .other)) (products-turned j l)
 
   -- ---- the extrapolated point
-  pub signs-of : {w w' : List Float} → Weights turning w w' → Signs (λ (j : ℕ). unlike (c j) t) w w'
+  signs-of : {w w' : List Float} → Weights turning w w' → Signs (λ (j : ℕ). unlike (c j) t) w w'
   signs-of {w} {w'} v = signs-each w w' (v .size ∙ sym (v .size')) (λ k l. v .each k (rw (v .size) at l))
 
   fit-of : {ws : List ℕ} → Chosen (X .p) ws → {w w' : List Float} → Weights turning w w'
@@ -138,23 +148,17 @@ module _ (c : ℕ → Bool) (t : Bool) (X : Design) (other : ℕ → ℕ → Flo
         let f = fit-of C v in
         rw (objective-same (signs-of v) f, objective-same (signs-of (r .weights)) (r .other), finite-same (signs-of v), finite-same f)
 
-    entry-same : S .extrapolate ≡ true → {ws : List ℕ} → {kept kept' : List Float} (e : ℕ) → due (S .depth) e ws ≡ true
-        → Rows turning ws (suc (S .depth)) kept kept' → (a b : ℕ) → a < S .depth → b < S .depth
-        → entry (S .depth) (X .p) kept a b ≡ entry (S .depth) (X .p) kept' a b
-    unfolding entry due
-    entry-same on {ws} {kept} {kept'} e d r a b la lb = sum-exact (λ (k : ℕ). t) _ _ _ _ (S .depth) (difference a la) (difference b lb)
+    entry-same : S .extrapolate ≡ true → {ws : List ℕ} {kept kept' : List Float} → Rows turning ws (suc (S .depth)) kept kept'
+        → (a b : ℕ) → a < length ws → b < length ws → entry (S .depth) (X .p) kept a b ≡ entry (S .depth) (X .p) kept' a b
+    unfolding entry
+    entry-same on {ws} {kept} {kept'} r a b la lb = sum-exact t _ _ _ _ (S .depth) (difference-at a la) (difference-at b lb)
       where
-        places : S .depth ≤ length ws
-        places = leb-true (S .depth) (length ws) (and-both (eqb (e % suc (S .depth)) (S .depth)) _ d .1)
+        -- with no column turned, all weights turn as the targets
+        difference-at : (a : ℕ) → a < length ws → (k : ℕ) → k < S .depth → Turned t (U (X .p) kept k a) (U (X .p) kept' k a)
+        difference-at a la k l =
+            rw (flat on (getD ws a 0), unlike-none t) at (turned-sub binary64 (r .each (suc k) (omega arith) a la) (r .each k (omega arith) a la))
 
-        flat-sign : (j : ℕ) → unlike (c j) t ≡ t
-        flat-sign j = rw (flat on j) (unlike-none t)
-
-        difference : (a : ℕ) → a < S .depth → (k : ℕ) → k < S .depth → Turned t (U (X .p) kept k a) (U (X .p) kept' k a)
-        difference a la k l =
-            rw (flat-sign (getD ws a 0)) at (turned-sub binary64 (r .each (suc k) (omega arith) a (omega (arith, places))) (r .each k (omega arith) a (omega (arith, places))))
-
-    pub respects : Respects turning
+    respects : Respects turning
     respects = record {
       nothing = λ j l. zero-turned (unlike (c j) t);
       start = signs-zeros (λ (i : ℕ). t) n;
@@ -165,8 +169,30 @@ module _ (c : ℕ → Bool) (t : Bool) (X : Design) (other : ℕ → ℕ → Flo
       fine = fine-same;
       weight = λ r j l z f. new-weight r j l z;
       visited = λ r j l z f. visited-fit r j l z;
-      entry = λ on C e d r a b la lb. entry-same on e d r a b la lb;
+      entry = entry-same;
       combined = λ on j l a x x' m h. sum-turned _ _ m (λ k o. turned-times (a k) (h k o));
       better = λ on C v r. better-same C v r;
       taken = λ on C v r b. fit-of C v;
     }
+
+  -- ---- the whole solve
+  same-run : (s s' : State) → Alike turning s s' → Same c t S s s'
+  same-run s s' u =
+      let r : reportOf S s ≡ reportOf S s' = report-same turning S u in
+      let run : SameRun c t S s s' = record {
+        status = ap (λ (a : Report). a .status) r;
+        iterations = ap (λ (a : Report). a .iterations) r;
+        epochs = ap (λ (a : Report). a .epochs) r;
+        extrapolations = ap (λ (a : Report). a .extrapolations) r;
+        violation = ap (λ (a : Report). a .violation) r;
+        sets = ap (λ (a : State). a .sets) (u .same);
+        weights = signs-of (u .points .weights);
+        fit = u .points .other;
+      } in
+      (run, r)
+
+  pub solved-turned : Odd (S .penalty) → 1 ≤ X .n → X .n ≤ 65536 → (S .extrapolate ≡ true → (j : ℕ) → c j ≡ false)
+      → Both (Same c t S) (solved (first turning) y S) (solved (second turning) y' S)
+  solved-turned odd some few flat =
+      stages-map (Alike turning) (Alike turning) (Same c t S) (Same c t S) same-run same-run _ _
+      (two-solves turning usable-same (respects odd some few flat))

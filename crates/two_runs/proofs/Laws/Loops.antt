@@ -1,16 +1,18 @@
--- Choices, tests and loops of two runs at once. Assumes nothing.
+-- Choices, tests and loops of two runs at once: what is related at the start, and what each step keeps related, is related at the end.
+-- Assumes nothing.
 use mathlib.Core.Path.{_≡_, refl, ap}
 use mathlib.Core.Bool.{Bool, true, false}
 use Prim.Native.Nat.{ℕ, zero, suc, _<_}
 use native.Mathlib.Omega.{arith}
 use lib.Ieee.{Float}
 use Rattle.doubles.specs.Num.{pick, _and_, larger}
-use Rattle.doubles.specs.Steps.{steps, all, largest, Stage, going, stopped, bad, next, upto, andThen}
+use Rattle.doubles.specs.Steps.{steps, all, largest, Stage, going, next, upto, andThen}
 use Rattle.doubles.proofs.Laws.Steps.{steps-same}
-use Rattle.two_runs.specs.Alike.{Both, both-going, both-stopped, both-bad}
+use Rattle.two_runs.specs.Stages.{Stages, both-going, both-stopped, both-bad, Both}
 
 -- ---- choices by one test; each branch may know that it was taken
-pub related : {A : Type 0} (R : A → A → Type 0) {b b' : Bool} {x x' y y' : A} → b ≡ b' → (b ≡ true → R x x') → (b ≡ false → R y y') → R (pick b x y) (pick b' x' y')
+pub related : {A : Type 0} (R : A → A → Type 0) {b b' : Bool} {x x' y y' : A} → b ≡ b' → (b ≡ true → R x x') → (b ≡ false → R y y')
+    → R (pick b x y) (pick b' x' y')
 related R {b} {b'} {x} {x'} {y} {y'} e p q = rw (← e) (go b p q)
   where
     go : (a : Bool) → (a ≡ true → R x x') → (a ≡ false → R y y') → R (pick a x y) (pick a x' y')
@@ -31,37 +33,29 @@ unfolding steps
 steps-related R f g zero a b r h = r
 steps-related R f g (suc n) a b r h = h n (omega arith) _ _ (steps-related R f g n a b r (λ k l. h k (omega arith)))
 
--- two steps of one kind: G relates those that go on, and E those that stop
-pub data Stages {A : Type 0} (G E : A → A → Type 0) : Stage A → Stage A → Type 0 where
-  goes : {a b : A} → G a b → Stages G E (going a) (going b)
-  stops : {a b : A} → E a b → Stages G E (stopped a) (stopped b)
-  breaks : Stages G E bad bad
+-- ---- stages
+module _ {A : Type 0} where
+  pub stages-map : (G E G' E' : A → A → Type 0) → ((a b : A) → G a b → G' a b) → ((a b : A) → E a b → E' a b) → (x y : Stage A) → Stages G E x y
+      → Stages G' E' x y
+  stages-map G E G' E' g e _ _ (both-going r) = both-going (g _ _ r)
+  stages-map G E G' E' g e _ _ (both-stopped r) = both-stopped (e _ _ r)
+  stages-map G E G' E' g e _ _ both-bad = both-bad
 
-module _ {A : Type 0} (I : ℕ → A → A → Type 0) (E : A → A → Type 0) where
-  next-related : (k : ℕ) (f g : A → Stage A) → ((a b : A) → I k a b → Stages (I (suc k)) E (f a) (g b)) → (x y : Stage A) → Stages (I k) E x y
-      → Stages (I (suc k)) E (next f x) (next g y)
-  next-related k f g h _ _ (goes r) = h _ _ r
-  next-related k f g h _ _ (stops r) = stops r
-  next-related k f g h _ _ breaks = breaks
+  pub then-related : {B : Type 0} (R : A → A → Type 0) (G E : B → B → Type 0) (f g : A → Stage B) → ((a b : A) → R a b → Stages G E (f a) (g b))
+      → (x y : Stage A) → Both R x y → Stages G E (andThen x f) (andThen y g)
+  then-related R G E f g h _ _ (both-going r) = h _ _ r
+  then-related R G E f g h _ _ (both-stopped r) = h _ _ r
+  then-related R G E f g h _ _ both-bad = both-bad
 
-  whole : (n : ℕ) → ((a b : A) → I n a b → E a b) → (x y : Stage A) → Stages (I n) E x y → Both E x y
-  whole n h _ _ (goes r) = both-going (h _ _ r)
-  whole n h _ _ (stops r) = both-stopped r
-  whole n h _ _ breaks = both-bad
+  next-related : (I J E : A → A → Type 0) (f g : A → Stage A) → ((a b : A) → I a b → Stages J E (f a) (g b)) → (x y : Stage A) → Stages I E x y
+      → Stages J E (next f x) (next g y)
+  next-related I J E f g h _ _ (both-going r) = h _ _ r
+  next-related I J E f g h _ _ (both-stopped r) = both-stopped r
+  next-related I J E f g h _ _ both-bad = both-bad
 
-  pub upto-related : (f g : ℕ → A → Stage A) (n : ℕ) (a b : A) → ((a b : A) → I n a b → E a b) → I 0 a b
-      → ((k : ℕ) → k < n → (x y : A) → I k x y → Stages (I (suc k)) E (f k x) (g k y)) → Both E (upto f n a) (upto g n b)
-  upto-related f g n a b z r h =
-      whole n z _ _
-      (steps-related (λ (k : ℕ). Stages (I k) E) (λ k. next (f k)) (λ k. next (g k)) n (going a) (going b) (goes r) (λ k l. next-related k (f k) (g k) (h k l)))
-
-pub then-related : {A B : Type 0} (R : A → A → Type 0) (G E : B → B → Type 0) (f g : A → Stage B) → ((a b : A) → R a b → Stages G E (f a) (g b)) → (x y : Stage A)
-    → Both R x y → Stages G E (andThen x f) (andThen y g)
-then-related R G E f g h _ _ (both-going r) = h _ _ r
-then-related R G E f g h _ _ (both-stopped r) = h _ _ r
-then-related R G E f g h _ _ both-bad = breaks
-
-pub both-map : {A : Type 0} (R Q : A → A → Type 0) → ((a b : A) → R a b → Q a b) → (x y : Stage A) → Both R x y → Both Q x y
-both-map R Q h _ _ (both-going r) = both-going (h _ _ r)
-both-map R Q h _ _ (both-stopped r) = both-stopped (h _ _ r)
-both-map R Q h _ _ both-bad = both-bad
+  -- I k relates what goes on before step k, and E what stops
+  pub upto-related : (I : ℕ → A → A → Type 0) (E : A → A → Type 0) (f g : ℕ → A → Stage A) (n : ℕ) (a b : A) → I 0 a b
+      → ((k : ℕ) → k < n → (x y : A) → I k x y → Stages (I (suc k)) E (f k x) (g k y)) → Stages (I n) E (upto f n a) (upto g n b)
+  upto-related I E f g n a b r h =
+      steps-related (λ (k : ℕ). Stages (I k) E) (λ k. next (f k)) (λ k. next (g k)) n (going a) (going b) (both-going r)
+      (λ k l. next-related (I k) (I (suc k)) E (f k) (g k) (h k l))

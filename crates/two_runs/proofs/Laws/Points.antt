@@ -11,18 +11,20 @@ use lib.Seq.{getD-set-same, getD-set-other}
 use lib.Ieee.{Float, nan, eq}
 use borrow.Author.Tests.{ltb-false, eqb-true, eqb-false}
 use Rattle.doubles.specs.Num.{#0, at, pick}
-use Rattle.doubles.specs.Steps.{tab}
 use Rattle.doubles.proofs.Laws.Steps.{steps-same, tab-same, length-tab, getD-tab}
 use Rattle.runs.specs.WorkingSet.{isZero, smaller, support, size, insert, others, workingSet}
 use Rattle.runs.specs.Epoch.{Point, constant, known, allKnown, violations, worst, knownIn, worstIn, fine, visited, visit, visits}
 use Rattle.runs.specs.Run.{startSize, chosenSet}
+use Rattle.runs.specs.Call.{zeros}
 use Rattle.worksets.proofs.Laws.Sets.{size-most, length-workingSet, workingSet-each}
-use Rattle.two_runs.specs.Alike.{Both, Pair, first, second, Weights, Points, Chosen, Respects}
-use Rattle.two_runs.proofs.Laws.Loops.{related, all-same, largest-same, upto-related, Stages, goes, breaks}
+use Rattle.two_runs.specs.Stages.{Both, both-going, both-bad}
+use Rattle.two_runs.specs.Alike.{Pair, first, second, Weights, Points, Chosen, Respects}
+use Rattle.two_runs.proofs.Laws.Loops.{related, all-same, largest-same, upto-related}
 
 -- ---- weights
 module _ (P : Pair) where
-  pub weights-set : {w w' : List Float} {x x' : Float} → Weights P w w' → (j : ℕ) → j < P .p → P .weight j x x' → Weights P (set w j x) (set w' j x')
+  pub weights-set : {w w' : List Float} {x x' : Float} → Weights P w w' → (j : ℕ) → j < P .p → P .weight j x x'
+      → Weights P (set w j x) (set w' j x')
   weights-set {w} {w'} {x} {x'} r j l v = record {
     each = λ k m. go k m (eqb k j) refl;
     size = length-set w j x ∙ r .size;
@@ -35,7 +37,7 @@ module _ (P : Pair) where
       go k m false e =
           rw (getD-set-other w j k x nan (eqb-false k j e), getD-set-other w' j k x' nan (eqb-false k j e)) (r .each k m)
 
-  pub weights-zero : ((j : ℕ) → j < P .p → P .weight j #0 #0) → Weights P (tab (λ j. #0) (P .p)) (tab (λ j. #0) (P .p))
+  pub weights-zero : ((j : ℕ) → j < P .p → P .weight j #0 #0) → Weights P (zeros (P .p)) (zeros (P .p))
   weights-zero h = record {
     each = λ j l. rw (getD-tab (λ j. #0) (P .p) j nan l) (h j l);
     size = length-tab (λ j. #0) (P .p);
@@ -87,7 +89,8 @@ module _ (P : Pair) (H : Respects P) where
     unfolding chosenSet violations
     chosen-same =
         rw (tab-same _ _ (P .p) (H .violation r))
-        (set-same (q .weights) (q' .weights) (P .p) (λ j l. H .zero j l (r .weights .each j l)) (r .weights .size) (r .weights .size') (startSize (first P) (P .settings)) _)
+        (set-same (q .weights) (q' .weights) (P .p) (λ j l. H .zero j l (r .weights .each j l)) (r .weights .size) (r .weights .size')
+        (startSize (first P) (P .settings)) _)
 
     pub chosen-fits : Chosen (P .p) (chosenSet (first P) (P .settings) q)
     unfolding chosenSet
@@ -107,13 +110,14 @@ module _ (P : Pair) (H : Respects P) where
   unfolding visited
   visited-related r j l z f = record { weights = weights-set P (r .weights) j l (H .weight r j l z f); other = H .visited r j l z f }
 
-  visit-related : (j : ℕ) → j < P .p → (q q' : Point) → Points P q q' → Stages (Points P) (Points P) (visit (first P) j q) (visit (second P) j q')
+  visit-related : (j : ℕ) → j < P .p → (q q' : Point) → Points P q q' → Both (Points P) (visit (first P) j q) (visit (second P) j q')
   unfolding visit
   visit-related j l q q' r =
-      related (Stages (Points P) (Points P)) (H .skipped j l) (λ e. goes r)
-      (λ z. related (Stages (Points P) (Points P)) (H .fine r j l z) (λ f. goes (visited-related r j l z f)) (λ f. breaks))
+      related (Both (Points P)) (H .skipped j l) (λ e. both-going r)
+      (λ z. related (Both (Points P)) (H .fine r j l z) (λ f. both-going (visited-related r j l z f)) (λ f. both-bad))
 
-  pub visits-related : {ws : List ℕ} → Chosen (P .p) ws → {q q' : Point} → Points P q q' → Both (Points P) (visits (first P) ws q) (visits (second P) ws q')
+  pub visits-related : {ws : List ℕ} → Chosen (P .p) ws → {q q' : Point} → Points P q q'
+      → Both (Points P) (visits (first P) ws q) (visits (second P) ws q')
   unfolding visits
   visits-related {ws} C r =
-      upto-related (λ (k : ℕ). Points P) (Points P) _ _ (length ws) _ _ (λ a b u. u) r (λ i l x y s. visit-related (getD ws i 0) (C .each i l) x y s)
+      upto-related (λ (k : ℕ). Points P) (Points P) _ _ (length ws) _ _ r (λ i l x y s. visit-related (getD ws i 0) (C .each i l) x y s)

@@ -4,13 +4,13 @@ use mathlib.Core.Path.{_≡_, refl, _∙_}
 use mathlib.Core.Bool.{true}
 use mathlib.Core.List.{List}
 use Prim.Native.Nat.{ℕ, suc, _+_, _*_, _%_, _≤_, _<_}
-use native.Mathlib.Nat.{mod-lt, mod-le, suc-mod, suc-mul, zero-lt-suc, mul-le-mul-right}
+use native.Mathlib.Nat.{mod-lt, mod-le, suc-mod, suc-mul, zero-lt-suc, mul-le-mul-right, le-trans}
 use native.Mathlib.Omega.{arith}
-use lib.Dec.{eqb, ltb}
+use lib.Dec.{leb, eqb, ltb}
 use lib.ListN.{length, getD}
 use lib.Ieee.{Float, nan}
 use borrow.Author.Count.{below-more}
-use borrow.Author.Tests.{ltb-true, eqb-true}
+use borrow.Author.Tests.{leb-true, ltb-true, eqb-true}
 use Rattle.doubles.specs.Num.{at}
 use Rattle.doubles.specs.Answer.{Outcome, refused, answered}
 use Rattle.doubles.proofs.Laws.Buffer.{length-put, put-before, put-in}
@@ -19,7 +19,8 @@ use Rattle.doubles.proofs.Laws.Steps.{tab-same, length-tab, getD-tab}
 use Rattle.systems.specs.Answer.{Ended, singular, solved}
 use Rattle.systems.specs.Elimination.{solveCall}
 use Rattle.runs.specs.Epoch.{Point}
-use Rattle.runs.specs.Extrapolation.{gathered, keptNow, entry, systemRow, system, coefficients, combined, candidate, Tried, keeps, chosen, pointOf, fromSolution, extrapolate, due, tried}
+use Rattle.runs.specs.Extrapolation.{gathered, keptNow, systemRow, system, coefficients, combined, candidate}
+use Rattle.runs.specs.Extrapolation.{Tried, keeps, chosen, pointOf, fromSolution, extrapolate, due, tried}
 use Rattle.two_runs.specs.Alike.{Pair, first, second, Weights, Points, Chosen, Rows, Respects}
 use Rattle.two_runs.proofs.Laws.Loops.{related, steps-related}
 use Rattle.two_runs.proofs.Laws.Points.{weights-set, weights-zero}
@@ -58,38 +59,43 @@ pub record Tries (P : Pair) (a b : Tried) : Type 0 where
   pub points : Points P (a .point) (b .point)
   pub taken : a .taken ≡ b .taken
 
-pub keeps-related : (P : Pair) {q q' : Point} → Points P q q' → Tries P (keeps q) (keeps q')
+keeps-related : (P : Pair) {q q' : Point} → Points P q q' → Tries P (keeps q) (keeps q')
 keeps-related P r = record { points = r; taken = refl }
 
-module _ (P : Pair) (K : ℕ) {ws : List ℕ} (C : Chosen (P .p) ws) where
-  pub rows-now : (e : ℕ) {w w' kept kept' : List Float} → Weights P w w' → length kept ≡ suc K * P .p → length kept' ≡ suc K * P .p → Rows P ws (e % suc K) kept kept'
-      → Rows P ws (suc (e % suc K)) (keptNow K (P .p) e ws w kept) (keptNow K (P .p) e ws w' kept')
-  rows-now e {w} {w'} {kept} {kept'} v m m' h = record {
+module _ (P : Pair) (K : ℕ) {ws : List ℕ} (C : Chosen (P .p) ws) (e : ℕ) (kept kept' : List Float) {w w' : List Float} (v : Weights P w w')
+    (room : length kept ≡ suc K * P .p) (room' : length kept' ≡ suc K * P .p) where
+  abbrev now : List Float
+  now = keptNow K (P .p) e ws w kept
+
+  abbrev now' : List Float
+  now' = keptNow K (P .p) e ws w' kept'
+
+  pub rows-now : Rows P ws (e % suc K) kept kept' → Rows P ws (suc (e % suc K)) now now'
+  rows-now h = record {
     each = λ r l.
-        below-more
-        (λ (r : ℕ). (i : ℕ) → i < length ws → P .weight (getD ws i 0) (at (keptNow K (P .p) e ws w kept) (r * P .p + i)) (at (keptNow K (P .p) e ws w' kept') (r * P .p + i)))
-        (e % suc K)
-        (λ r l i o. rw (row-before K (P .p) e ws (C .few) w kept m r i l o, row-before K (P .p) e ws (C .few) w' kept' m' r i l o) (h .each r l i o))
-        (λ i o. rw (row-now K (P .p) e ws (C .few) w kept m i o, row-now K (P .p) e ws (C .few) w' kept' m' i o) (v .each (getD ws i 0) (C .each i o)))
+        below-more (λ (r : ℕ). (i : ℕ) → i < length ws → P .weight (getD ws i 0) (at now (r * P .p + i)) (at now' (r * P .p + i))) (e % suc K)
+        (λ r l i o. rw (row-before K (P .p) e ws (C .few) w kept room r i l o, row-before K (P .p) e ws (C .few) w' kept' room' r i l o) (h .each r l i o))
+        (λ i o. rw (row-now K (P .p) e ws (C .few) w kept room i o, row-now K (P .p) e ws (C .few) w' kept' room' i o) (v .each (getD ws i 0) (C .each i o)))
         r (omega arith);
   }
 
--- where the step is due, the row just kept was the last
-due-last : (K e : ℕ) (ws : List ℕ) → due K e ws ≡ true → e % suc K ≡ K
+-- where the step is due, the row just kept was the last, and the working set has a place to each row of the system
+due-last : (K e : ℕ) (ws : List ℕ) → due K e ws ≡ true → (e % suc K ≡ K) × (K ≤ length ws)
 unfolding due
-due-last K e ws h = eqb-true (e % suc K) K (and-both (eqb (e % suc K) K) _ h .0)
+due-last K e ws h = let b = and-both (eqb (e % suc K) K) (leb K (length ws)) h in (eqb-true (e % suc K) K (b .0), leb-true K (length ws) (b .1))
 
 module _ (P : Pair) (H : Respects P) (on : P .settings .extrapolate ≡ true) {ws : List ℕ} (C : Chosen (P .p) ws) where
   abbrev K : ℕ
   K = P .settings .depth
 
   -- ---- the system
-  module _ {kept kept' : List Float} (r : Rows P ws (suc K) kept kept') (e : ℕ) (d : due K e ws ≡ true) where
+  module _ {kept kept' : List Float} (r : Rows P ws (suc K) kept kept') (places : K ≤ length ws) where
     row-same : (a : ℕ) → a < K → systemRow K (P .p) kept a ≡ systemRow K (P .p) kept' a
     unfolding systemRow
     row-same a l =
         tab-same _ _ 11
-        (λ b m. related (λ (x y : Float). x ≡ y) {b = ltb b K} refl (λ h. H .entry on C e d r a b l (ltb-true b K h)) (λ h. refl))
+        (λ b m. related (λ (x y : Float). x ≡ y) {b = ltb b K} refl
+        (λ h. H .entry on r a b (le-trans l places) (le-trans (ltb-true b K h) places)) (λ h. refl))
 
     system-same : system K (P .p) kept ≡ system K (P .p) kept'
     unfolding system
@@ -100,7 +106,8 @@ module _ (P : Pair) (H : Respects P) (on : P .settings .extrapolate ≡ true) {w
     combined-related : (c : List Float) (i : ℕ) → i < length ws → P .weight (getD ws i 0) (combined K (P .p) kept c i) (combined K (P .p) kept' c i)
     unfolding combined
     combined-related c i l =
-        H .combined on (getD ws i 0) (C .each i l) (at c) (λ k. at kept (k * P .p + i)) (λ k. at kept' (k * P .p + i)) K (λ k m. r .each k (omega arith) i l)
+        H .combined on (getD ws i 0) (C .each i l) (at c) (λ k. at kept (k * P .p + i)) (λ k. at kept' (k * P .p + i)) K
+        (λ k m. r .each k (omega arith) i l)
 
     candidate-related : (c : List Float) → Weights P (candidate K (P .p) ws kept c) (candidate K (P .p) ws kept' c)
     unfolding candidate
@@ -133,4 +140,6 @@ module _ (P : Pair) (H : Respects P) (on : P .settings .extrapolate ≡ true) {w
       → Tries P (tried (first P) (P .y) K e ws kept q) (tried (second P) (P .y') K e ws kept' q')
   unfolding tried
   tried-related e r u =
-      related (Tries P) {b = due K e ws} refl (λ d. extrapolate-related (rw (due-last K e ws d) at r) e d u) (λ d. keeps-related P u)
+      related (Tries P) {b = due K e ws} refl
+      (λ d. let z = due-last K e ws d in extrapolate-related (rw (z .0) at r) (z .1) u)
+      (λ d. keeps-related P u)
