@@ -2,4 +2,3 @@
 pub mod Settings
 pub mod Passed
 pub mod Ends
-pub mod Keeps
