@@ -66,14 +66,14 @@ module _ {c σ : ℕ → Bool} {t : Bool} {s : Shape} {starts rows : List ℕ} {
     where
       go : (f : Fault) → fitFault s starts rows values y S b ≡ f
           → answer f S (fitted s starts rows values y S) ≡ answer f S (fitted s starts rows values' y' S)
-      go none e = ended-same S (λ s s' u. u .1) _ _ (run-turned e)
+      go none e = ended-same (Same c t S) S (λ s s' u. u .1) (run-turned e)
       go (fault number place) e = refl
 
   pub sign-law-passed : SameCall c t s starts rows values values' y y' S b
   sign-law-passed = record {
     refusal = refusal-same;
     answer = answer-same;
-    run = λ e. stages-map (Same c t S) (Same c t S) (SameRun c t S) (SameRun c t S) (λ s s' u. u .0) (λ s s' u. u .0) _ _ (run-turned e);
+    run = λ e. stages-map (λ s s' u. u .0) (λ s s' u. u .0) (run-turned e);
   }
 
 pub sign-law : {c : ℕ → Bool} {t : Bool} {s : Shape} {starts rows : List ℕ} {values values' y y' : List Float} {S : Settings}

@@ -77,15 +77,15 @@ module _ (T : Task) (y : List Float) (S : Settings) (P : Point → Type 0) (K : 
     taken = λ on {ws} C {w} v {q} r b. rw (weights-same v) (refl, K .taken q (r .other .1) ws w (v .size) b);
   }
 
-  held : (r r' : Stage State) → Both (Alike itself) r r' → Holds P r
-  held _ _ (both-going u) = u .points .other .1
-  held _ _ (both-stopped u) = u .points .other .1
-  held _ _ both-bad = tt
+  held : {r r' : Stage State} → Both (Alike itself) r r' → Holds P r
+  held (both-going u) = u .points .other .1
+  held (both-stopped u) = u .points .other .1
+  held both-bad = tt
 
-  -- at the beginning of every turn, and where the run stops
+  -- at the beginning of every turn
   pub reached-keeps : (t : ℕ) (s : State) → upto (turn T y S) t (start T S) ≡ going s → P (s .inner .point)
-  reached-keeps t s e = rw e at (held _ _ (two-turns itself respects t))
+  reached-keeps t s e = rw e at (held (two-turns itself respects t))
 
-  -- request 12 will cite it
+  -- where the run stops: request 12 will cite it
   pub solved-keeps : (s : State) → solved T y S ≡ stopped s → P (s .inner .point)
-  solved-keeps s e = rw e at (held _ _ (two-solves itself (λ j l. refl) (λ u. respects)))
+  solved-keeps s e = rw e at (held (two-solves itself (λ j l. refl) (λ u. respects)))

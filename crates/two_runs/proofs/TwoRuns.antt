@@ -98,10 +98,10 @@ module _ (P : Pair) (H : Respects P) where
           → Stages (Under P ws (suc e)) (Inners P) (epoch T (P .y) S ws outer e s) (epoch T' (P .y') S ws outer e s')
       unfolding epoch settled
       epoch-related e s s' u =
-          then-related (Points P) (Under P ws (suc e)) (Inners P) _ _
+          then-related _ _
           (λ q q' r. let a = accelerated-related e u r in
           related (Stages (Under P ws (suc e)) (Inners P)) {b = checks e} refl (λ h. checked-related (suc e) a) (λ h. both-going a))
-          _ _ (visits-related P H C (u .inners .points))
+          (visits-related P H C (u .inners .points))
 
       -- under a new working set no row was kept yet
       begins : {s s' : Inner} → Inners P s s' → Under P ws 0 s s'
@@ -113,7 +113,7 @@ module _ (P : Pair) (H : Respects P) where
       epochs-related : {s s' : Inner} → Inners P s s' → Both (Inners P) (epochs T (P .y) S ws outer s) (epochs T' (P .y') S ws outer s')
       unfolding epochs
       epochs-related u =
-          stages-map (Under P ws (S .epochs)) (Inners P) (Inners P) (Inners P) (λ a b v. v .inners) (λ a b v. v) _ _
+          stages-map (λ a b v. v .inners) (λ a b v. v)
           (upto-related (Under P ws) (Inners P) _ _ (S .epochs) _ _ (begins u) (λ e l. epoch-related e))
 
   -- ---- the outer loop
@@ -122,9 +122,9 @@ module _ (P : Pair) (H : Respects P) where
   iteration-related v {s} {s'} u =
       let r = u .inner .points in
       rw (← chosen-same P H r)
-      (then-related (Inners P) (States P) (States P) _ _
+      (then-related _ _
       (λ i i' a. both-going (record { inner = a; same = λ k. rest (after (u .same k) (chosenSet T S (s .inner .point)) v (a .same k)) }))
-      _ _ (epochs-related (chosen-fits P H r) v (u .inner)))
+      (epochs-related (chosen-fits P H r) v (u .inner)))
 
   turn-related : (t : ℕ) (s s' : State) → States P s s' → Both (States P) (turn T (P .y) S t s) (turn T' (P .y') S t s')
   unfolding turn
@@ -153,7 +153,7 @@ module _ (P : Pair) (H : Respects P) where
   -- the first t turns
   pub two-turns : (t : ℕ) → Both (Alike P) (upto (turn T (P .y) S) t (start T S)) (upto (turn T' (P .y') S) t (start T' S))
   two-turns t =
-      stages-map (States P) (States P) (Alike P) (Alike P) alike alike _ _
+      stages-map alike alike
       (upto-related (λ (k : ℕ). States P) (States P) _ _ t _ _ start-related (λ k l. turn-related k))
     where
       alike : (s s' : State) → States P s s' → Alike P s s'
@@ -171,8 +171,8 @@ pub report-same : (P : Pair) (S : Settings) {s s' : State} → Alike P s s' → 
 unfolding reportOf
 report-same P S u = λ k. reportOf S (u .same k)
 
-pub ended-same : {R : State → State → Type 0} (S : Settings) → ((s s' : State) → R s s' → reportOf S s ≡ reportOf S s') → (r r' : Stage State)
+pub ended-same : (R : State → State → Type 0) (S : Settings) → ((s s' : State) → R s s' → reportOf S s ≡ reportOf S s') → {r r' : Stage State}
     → Both R r r' → ended S r ≡ ended S r'
-ended-same S h _ _ (both-going u) = refl
-ended-same S h _ _ (both-stopped u) = ap answered (h _ _ u)
-ended-same S h _ _ both-bad = refl
+ended-same R S h (both-going u) = refl
+ended-same R S h (both-stopped u) = ap answered (h _ _ u)
+ended-same R S h both-bad = refl

@@ -194,5 +194,4 @@ module _ (c : ℕ → Bool) (t : Bool) (X : Design) (other : ℕ → ℕ → Flo
   pub solved-turned : Odd (S .penalty) → 1 ≤ X .n → X .n ≤ 65536 → (S .extrapolate ≡ true → (j : ℕ) → c j ≡ false)
       → Both (Same c t S) (solved (first turning) y S) (solved (second turning) y' S)
   solved-turned odd some few flat =
-      stages-map (Alike turning) (Alike turning) (Same c t S) (Same c t S) same-run same-run _ _
-      (two-solves turning usable-same (respects odd some few flat))
+      stages-map same-run same-run (two-solves turning usable-same (respects odd some few flat))

@@ -35,27 +35,27 @@ steps-related R f g (suc n) a b r h = h n (omega arith) _ _ (steps-related R f g
 
 -- ---- stages
 module _ {A : Type 0} where
-  pub stages-map : (G E G' E' : A → A → Type 0) → ((a b : A) → G a b → G' a b) → ((a b : A) → E a b → E' a b) → (x y : Stage A) → Stages G E x y
+  pub stages-map : {G E G' E' : A → A → Type 0} → ((a b : A) → G a b → G' a b) → ((a b : A) → E a b → E' a b) → {x y : Stage A} → Stages G E x y
       → Stages G' E' x y
-  stages-map G E G' E' g e _ _ (both-going r) = both-going (g _ _ r)
-  stages-map G E G' E' g e _ _ (both-stopped r) = both-stopped (e _ _ r)
-  stages-map G E G' E' g e _ _ both-bad = both-bad
+  stages-map g e (both-going r) = both-going (g _ _ r)
+  stages-map g e (both-stopped r) = both-stopped (e _ _ r)
+  stages-map g e both-bad = both-bad
 
-  pub then-related : {B : Type 0} (R : A → A → Type 0) (G E : B → B → Type 0) (f g : A → Stage B) → ((a b : A) → R a b → Stages G E (f a) (g b))
-      → (x y : Stage A) → Both R x y → Stages G E (andThen x f) (andThen y g)
-  then-related R G E f g h _ _ (both-going r) = h _ _ r
-  then-related R G E f g h _ _ (both-stopped r) = h _ _ r
-  then-related R G E f g h _ _ both-bad = both-bad
+  pub then-related : {B : Type 0} {R : A → A → Type 0} {G E : B → B → Type 0} (f g : A → Stage B) → ((a b : A) → R a b → Stages G E (f a) (g b))
+      → {x y : Stage A} → Both R x y → Stages G E (andThen x f) (andThen y g)
+  then-related f g h (both-going r) = h _ _ r
+  then-related f g h (both-stopped r) = h _ _ r
+  then-related f g h both-bad = both-bad
 
-  next-related : (I J E : A → A → Type 0) (f g : A → Stage A) → ((a b : A) → I a b → Stages J E (f a) (g b)) → (x y : Stage A) → Stages I E x y
+  next-related : {I J E : A → A → Type 0} (f g : A → Stage A) → ((a b : A) → I a b → Stages J E (f a) (g b)) → {x y : Stage A} → Stages I E x y
       → Stages J E (next f x) (next g y)
-  next-related I J E f g h _ _ (both-going r) = h _ _ r
-  next-related I J E f g h _ _ (both-stopped r) = both-stopped r
-  next-related I J E f g h _ _ both-bad = both-bad
+  next-related f g h (both-going r) = h _ _ r
+  next-related f g h (both-stopped r) = both-stopped r
+  next-related f g h both-bad = both-bad
 
   -- I k relates what goes on before step k, and E what stops
   pub upto-related : (I : ℕ → A → A → Type 0) (E : A → A → Type 0) (f g : ℕ → A → Stage A) (n : ℕ) (a b : A) → I 0 a b
       → ((k : ℕ) → k < n → (x y : A) → I k x y → Stages (I (suc k)) E (f k x) (g k y)) → Stages (I n) E (upto f n a) (upto g n b)
   upto-related I E f g n a b r h =
       steps-related (λ (k : ℕ). Stages (I k) E) (λ k. next (f k)) (λ k. next (g k)) n (going a) (going b) (both-going r)
-      (λ k l. next-related (I k) (I (suc k)) E (f k) (g k) (h k l))
+      (λ k l x y. next-related (f k) (g k) (h k l))
