@@ -21,7 +21,7 @@ use Rattle.runs.proofs.Laws.Settings.{penalty-legal}
 use Rattle.two_runs.specs.Stages.{Both}
 use Rattle.two_runs.proofs.Laws.Loops.{stages-map}
 use Rattle.two_runs.proofs.TwoRuns.{ended-same}
-use Rattle.signs.specs.Turning.{Turning, SameRun, SameCall}
+use Rattle.signs.specs.Turning.{Turning, SameCall}
 use Rattle.signs.proofs.Laws.Columns.{with-values}
 use Rattle.signs.proofs.Laws.Steps.{Same, solved-turned}
 use Rattle.signs.proofs.Laws.Faults.{fault-same}
