@@ -26,7 +26,7 @@ use Rattle.runs.specs.Call.{Lent, fitFault, usableAt, solved, fitted, reportOf,
 use Rattle.runs.specs.declared.Settings.{Settings}
 use Rattle.runs.specs.declared.Report.{Report}
 use Rattle.runs.proofs.Laws.Passed.{passed}
-use Rattle.runs.proofs.Laws.Keeps.{reached-keeps}
+use Rattle.two_runs.proofs.OneRun.{reached-keeps}
 use Rattle.endings.specs.NotFinite.{worstAt, taskOf}
 use Rattle.endings.specs.Completed.{Finite, Completed, CompletedCall}
 use Rattle.endings.proofs.Laws.Points.{Good, good-kept}

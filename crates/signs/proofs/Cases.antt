@@ -12,7 +12,8 @@ use lib.ListN.{getD}
 use lib.Ieee.{Float, unlike}
 use Rattle.doubles.specs.Sign.{Turned, Signs, none, more}
 use Rattle.doubles.proofs.Laws.Turned.{turned-refl, turned-by}
-use Rattle.doubles.proofs.Laws.Signs.{signs-at}
+use Rattle.doubles.proofs.Laws.Compare.{eq-turned}
+use Rattle.doubles.proofs.Laws.Signs.{zero-turned, signs-at}
 use Rattle.doubles.specs.Steps.{steps, Stage}
 use Rattle.designs.specs.Design.{dense, csc, laid}
 use Rattle.designs.specs.Sound.{Rising, Held}
@@ -27,9 +28,9 @@ use Rattle.runs.specs.Call.{Lent, fitFault, fitted, weightsOf, fitEntries, fitC
 use Rattle.runs.specs.declared.Report.{Report}
 use Rattle.runs.specs.declared.Settings.{Settings}
 use Rattle.runs.proofs.Laws.Passed.{passed}
-use Rattle.signs.specs.Turning.{SameRun, Both, both-going, both-stopped, both-bad, SameCall, turned, signsOf}
+use Rattle.two_runs.specs.Stages.{Both, both-going, both-stopped, both-bad}
+use Rattle.signs.specs.Turning.{SameRun, SameCall, turned, signsOf}
 use Rattle.signs.proofs.Laws.Exact.{signs-zeros}
-use Rattle.signs.proofs.Laws.Sets.{zero-same}
 use Rattle.signs.proofs.SignLaw.{sign-law-passed, sign-law}
 
 signs-of : (s : ℕ → Bool) (xs : List Float) → Signs s xs (turned s xs)
@@ -128,4 +129,4 @@ module _ {c : ℕ → Bool} {t : Bool} {s : Shape} {starts rows : List ℕ} {val
   -- a weight is left zero by both or by none
   pub zeros-both : fitFault s starts rows values y S b ≡ no-fault → (j : ℕ)
       → isZero (weightsOf (s .p) (fitted s starts rows values y S)) j ≡ isZero (weightsOf (s .p) (fitted s starts rows values' y' S)) j
-  zeros-both e j = zero-same (left-turned e .0) j
+  zeros-both e j = eq-turned (signs-at (left-turned e .0) j) (zero-turned (unlike (c j) t))

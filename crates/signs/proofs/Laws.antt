@@ -1,10 +1,6 @@
 -- From the parts of one call to the whole of it.
 pub mod Exact
-pub mod Pairs
-pub mod Violations
-pub mod Sets
-pub mod Visits
-pub mod Extrapolation
-pub mod Runs
+pub mod Columns
 pub mod Preparation
+pub mod Steps
 pub mod Faults

@@ -9,7 +9,7 @@ use lib.ListN.{getD}
 use lib.Ieee.{Float, unlike}
 use Rattle.doubles.specs.Num.{pick}
 use Rattle.doubles.specs.Sign.{flip, Turned, Signs}
-use Rattle.doubles.specs.Steps.{steps, Stage, going, stopped, bad}
+use Rattle.doubles.specs.Steps.{steps}
 use Rattle.designs.specs.Design.{design}
 use Rattle.doubles.specs.Answer.{none}
 use Rattle.designs.specs.declared.Layout.{Layout}
@@ -18,6 +18,7 @@ use Rattle.designs.specs.declared.Shape.{Shape}
 use Rattle.runs.specs.Run.{State}
 use Rattle.runs.specs.Call.{Lent, fitFault, fitted, reportOf, fitCall}
 use Rattle.runs.specs.declared.Settings.{Settings}
+use Rattle.two_runs.specs.Stages.{Both}
 
 -- the second call is given the first one's numbers turned: column j where c j is true, and the targets where t is
 pub record Turning (c : ℕ → Bool) (t : Bool) (s : Shape) (starts rows : List ℕ) (values values' y y' : List Float) (S : Settings) : Type 0 where
@@ -44,12 +45,6 @@ pub record SameRun (c : ℕ → Bool) (t : Bool) (S : Settings) (s s' : State) :
   -- weight j where its column or the targets turn, but not where both do; the fit as the targets
   pub weights : Signs (λ (j : ℕ). unlike (c j) t) (s .inner .point .weights) (s' .inner .point .weights)
   pub fit : Signs (λ (i : ℕ). t) (s .inner .point .fit) (s' .inner .point .fit)
-
--- two runs that end in the same way, at states that R relates
-pub data Both {A : Type 0} (R : A → A → Type 0) : Stage A → Stage A → Type 0 where
-  both-going : {a b : A} → R a b → Both R (going a) (going b)
-  both-stopped : {a b : A} → R a b → Both R (stopped a) (stopped b)
-  both-bad : Both R bad bad
 
 -- what demand 3 says of the two calls, each with the same buffers
 pub record SameCall (c : ℕ → Bool) (t : Bool) (s : Shape) (starts rows : List ℕ) (values values' y y' : List Float) (S : Settings) (b : Lent) : Type 0 where

@@ -6,7 +6,7 @@ use mathlib.Core.Logic.{_⊎_, inl, inr, ⊎-elim}
 use Prim.Native.Nat.{ℕ, zero, suc, _<_}
 use native.Mathlib.Omega.{arith}
 use Rattle.doubles.specs.Num.{_and_, _or_}
-use Rattle.doubles.specs.Steps.{steps, all, Stage, going, stopped, bad, next, upto, andThen, over}
+use Rattle.doubles.specs.Steps.{steps, all, Stage, going, stopped, bad, upto, over}
 use Rattle.doubles.specs.Answer.{refused, answered}
 use Rattle.doubles.proofs.Laws.Steps.{all-each}
 
@@ -103,23 +103,3 @@ pub steps-keeps : {A : Type 0} (P : A → Type 0) (f : ℕ → A → A) (n : ℕ
 unfolding steps
 steps-keeps P f zero a p h = p
 steps-keeps P f (suc n) a p h = h n (omega arith) (steps f n a) (steps-keeps P f n a p (λ k l. h k (omega arith)))
-
--- P holds of what a loop goes on with, or has stopped at
-abbrev pub Holds : {A : Type 0} → (A → Type 0) → Stage A → Type 0
-Holds P (going a) = P a
-Holds P (stopped a) = P a
-Holds P bad = Unit {0}
-
-module _ {A : Type 0} (P : A → Type 0) where
-  pub upto-keeps : (f : ℕ → A → Stage A) (n : ℕ) (a : A) → P a → ((k : ℕ) → k < n → (x : A) → P x → Holds P (f k x)) → Holds P (upto f n a)
-  upto-keeps f n a p h = steps-keeps (Holds P) (λ k. next (f k)) n (going a) p go
-    where
-      go : (k : ℕ) → k < n → (x : Stage A) → Holds P x → Holds P (next (f k) x)
-      go k l (going b) q = h k l b q
-      go k l (stopped b) q = q
-      go k l bad q = q
-
-  pub then-keeps : {B : Type 0} (Q : B → Type 0) (x : Stage A) (g : A → Stage B) → Holds P x → ((a : A) → P a → Holds Q (g a)) → Holds Q (andThen x g)
-  then-keeps Q (going a) g p h = h a p
-  then-keeps Q (stopped a) g p h = h a p
-  then-keeps Q bad g p h = p

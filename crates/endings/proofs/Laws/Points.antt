@@ -5,21 +5,20 @@ use mathlib.Core.Bool.{Bool, true, false}
 use mathlib.Core.List.{List}
 use mathlib.Core.Logic.{⊎-elim}
 use Prim.Native.Nat.{ℕ, _<_}
-use lib.ListN.{length, getD, set, length-set}
+use lib.ListN.{length, set, length-set}
 use lib.Ieee.{Float, nan, eq}
 use Rattle.doubles.specs.Num.{_⊖_, #0, at, finite, pick}
 use Rattle.doubles.specs.Steps.{tab}
 use Rattle.doubles.proofs.Laws.Choice.{and-both}
 use Rattle.doubles.proofs.Laws.Steps.{length-tab, getD-tab, set-place, all-each}
 use Rattle.doubles.proofs.Laws.Finite.{zero-finite}
-use Rattle.doubles.proofs.Laws.Ends.{steps-keeps}
 use Rattle.designs.specs.Design.{moved, extrapolated}
 use Rattle.designs.proofs.Laws.Moved.{Sures, moved-elsewhere, moved-sure, zeros-sure, extrapolated-sure}
 use Rattle.runs.specs.Epoch.{Task, Point, newWeight, movedBy, movedFinite, fine, visited}
-use Rattle.runs.specs.Extrapolation.{candidate, combined, allFinite, better, pointOf}
-use Rattle.runs.specs.Run.{start}
+use Rattle.runs.specs.Extrapolation.{allFinite, better, pointOf}
+use Rattle.runs.specs.Call.{zeros}
 use Rattle.runs.specs.declared.Settings.{Settings}
-use Rattle.runs.proofs.Laws.Keeps.{Keeps}
+use Rattle.two_runs.proofs.OneRun.{Keeps}
 use Rattle.endings.proofs.Laws.Changed.{changed-finite}
 
 -- n finite numbers, none of them -0
@@ -43,8 +42,7 @@ unfolding allFinite
 all-finite f n e h i l = all-each (λ i. finite (at f i)) (length f) h i (rw e l)
 
 module _ (T : Task) (y : List Float) (S : Settings) where
-  start-good : Good (T .n) (T .p) (start T S .inner .point)
-  unfolding start
+  start-good : Good (T .n) (T .p) (record { weights = zeros (T .p); fit = zeros (T .n) })
   start-good = record {
     weights = record { size = length-tab (λ j. #0) (T .p); finite = zeros-finite (T .p) };
     fit = record { finite = zeros-finite (T .n); sure = zeros-sure (T .n) };
@@ -81,12 +79,6 @@ module _ (T : Task) (y : List Float) (S : Settings) where
         record { weights = weight-stored (newWeight T q j) (a .0); fit = fit-moved (newWeight T q j ⊖ at (q .weights) j) (a .1) }
 
   -- ---- a candidate
-  candidate-length : (K : ℕ) (ws : List ℕ) (kept c : List Float) → length (candidate K (T .p) ws kept c) ≡ T .p
-  unfolding candidate
-  candidate-length K ws kept c =
-      steps-keeps (λ (w : List Float). length w ≡ T .p) (λ i w. set w (getD ws i 0) (combined K (T .p) kept c i)) (length ws) _ (length-tab (λ j. #0) (T .p))
-      (λ i l w e. length-set w (getD ws i 0) _ ∙ e)
-
   taken-good : T .X .n ≡ T .n → (ws : List ℕ) (w : List Float) → length w ≡ T .p → (q : Point) → better T y (pointOf T ws w) q ≡ true
       → Good (T .n) (T .p) (pointOf T ws w)
   unfolding better pointOf
@@ -102,5 +94,5 @@ module _ (T : Task) (y : List Float) (S : Settings) where
   good-kept e = record {
     start = start-good;
     visited = λ q g j z f. visited-good q g j f;
-    taken = λ q g K ws kept c b. taken-good e ws (candidate K (T .p) ws kept c) (candidate-length K ws kept c) q b;
+    taken = λ q g ws w s b. taken-good e ws w s q b;
   }
