@@ -24,11 +24,11 @@ extern "C" {
 }
 
 /// What is lent to a fit.
-pub struct Buffers {
-    pub w: Vec<f64>,
-    pub fit: Vec<f64>,
-    pub indices: Vec<u32>,
-    pub scratch: Vec<f64>,
+pub struct Buffers<'a> {
+    pub w: &'a mut [f64],
+    pub fit: &'a mut [f64],
+    pub indices: &'a mut [u32],
+    pub scratch: &'a mut [f64],
 }
 
 /// An empty slice passes as a null pointer.
@@ -40,18 +40,27 @@ fn pointer_mut<T>(slice: &mut [T]) -> *mut T {
     if slice.is_empty() { std::ptr::null_mut() } else { slice.as_mut_ptr() }
 }
 
-pub fn fit(case: &Case, lent: &mut Buffers) -> Ending {
-    let s = &case.settings;
-    let code = match s.penalty {
+/// What the numbers behind the pointers hold before a call: none that a call which takes its input leaves there.
+const BEFORE: usize = 0xdead_beef;
+const STATUS_BEFORE: u32 = 0xdead_beef;
+const VIOLATION_BEFORE: f64 = -7.25e77;
+
+fn code_of(penalty: Penalty) -> u32 {
+    match penalty {
         Penalty::L1 => 0,
         Penalty::L1PlusL2 => 1,
         Penalty::Mcp => 2,
-    };
+    }
+}
+
+pub fn fit(case: &Case, lent: Buffers) -> Ending {
+    let s = &case.settings;
+    let code = code_of(s.penalty);
     let (n, p) = (case.n as usize, case.p as usize);
     let (start, iterations, epochs) = (s.start as usize, s.iterations as usize, s.epochs as usize);
     let (extrapolate, depth) = (u32::from(s.extrapolate), s.depth as usize);
     let Buffers { w, fit, indices, scratch } = lent;
-    let (mut status, mut violation, mut counts, mut place) = (0, 0.0, [0usize; 3], 0);
+    let (mut status, mut violation, mut counts, mut place) = (STATUS_BEFORE, VIOLATION_BEFORE, [BEFORE; 3], BEFORE);
     let [sets, passes, accepted] = &mut counts;
     let number = if case.csc {
         unsafe {
@@ -74,16 +83,13 @@ pub fn fit(case: &Case, lent: &mut Buffers) -> Ending {
         }
     };
     if number != 0 {
-        assert_eq!((status, violation.to_bits(), counts), (0, 0, [0; 3]), "a refusal wrote to the report");
+        assert_eq!((status, violation, counts), (STATUS_BEFORE, VIOLATION_BEFORE, [BEFORE; 3]), "a refusal wrote to the report");
         return Ending::Refused { number, place: place as u64 };
     }
     assert_eq!(place, 0, "a place without a refusal");
-    let (weights, fit) = (lent.w[..p].to_vec(), lent.fit[..n].to_vec());
+    let (weights, fit) = (w[..p].to_vec(), fit[..n].to_vec());
     Ending::Fitted { status, violation, counts: counts.map(|count| count as u64), weights, fit }
 }
-
-/// What size and place hold before a call: no size and no place of a call that takes its input.
-const BEFORE: usize = 0xdead_beef;
 
 /// The size of the set, which is in the index places then; or the refusal's number and place.
 pub fn working_set(violations: &[f64], w: &[f64], start: usize, indices: &mut [u32]) -> Result<usize, (u32, usize)> {

@@ -1,8 +1,9 @@
 //! Builds the working sets of full size (set_cases.rs) through the library's export, and prints a line for each. All are quick.
 
 use crate::calls::working_set;
+use crate::lent::INDEX_GUARD;
+use crate::longer;
 use crate::set_cases::{cases, line, Case, Ending};
-use crate::{guarded, INDEX_GUARD};
 
 fn ask(case: &Case, indices: &mut [u32]) -> Ending {
     match working_set(&case.violations, &case.weights, case.start as usize, indices) {
@@ -22,7 +23,7 @@ fn left_as_promised(case: &Case, ending: &Ending, indices: &[u32]) -> bool {
 
 pub fn print_lines() {
     for (name, case) in cases() {
-        let mut indices = vec![INDEX_GUARD; guarded(case.lent, case.weights.len())];
+        let mut indices = vec![INDEX_GUARD; longer(case.lent, case.weights.len())];
         let ending = ask(&case, &mut indices);
         let kept = if left_as_promised(&case, &ending, &indices) { "" } else { " BUFFERS" };
         println!("{}{kept}", line(&name, &ending));

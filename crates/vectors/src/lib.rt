@@ -88,7 +88,7 @@ fn commented(r: Reader) -> Reader
 }
 
 // What a hex digit counts, and 16 for any other byte.
-pub fn digit(byte: u8) -> u8 {
+fn digit(byte: u8) -> u8 {
     match byte {
         b'0'..=b'9' => byte - b'0',
         b'a'..=b'f' => byte - b'a' + 10,

@@ -46,14 +46,6 @@ pub struct Progress {
     pub counts: Counts,
 }
 
-// Before the first record.
-pub fn no_counts() -> Counts {
-    Counts {
-        cases: 0,
-        differ: 0,
-    }
-}
-
 // Before the first byte.
 pub fn begin(fd: i32) -> Progress
     ensures { λ r. ⌜ Kept r × (0 < r .left) ⌝ }
@@ -66,7 +58,10 @@ pub fn begin(fd: i32) -> Progress
         found: 0,
         reader: start(),
         line: 1,
-        counts: no_counts(),
+        counts: Counts {
+            cases: 0,
+            differ: 0,
+        },
     }
 }
 
@@ -75,38 +70,29 @@ pub fn one_more(n: u64) -> u64 {
     std::num::wrapping_add_u64(n, 1)
 }
 
-// One more record, of which `wrong` are wrong: 1 or 0.
-pub fn counted(c: Counts, wrong: u64) -> Counts {
-    Counts {
-        cases: one_more(c.cases),
-        differ: std::num::wrapping_add_u64(c.differ, wrong),
-    }
-}
-
-// Whether a record that differs or is bad is named. Only the first twenty are.
-pub fn is_named(c: Counts) -> bool {
-    c.differ < 20
-}
-
 fn print_line(line: u64, what: &[u8]) {
     io::write_all(STDOUT_FILENO, b"line ");
     io::print_decimal(STDOUT_FILENO, line);
     io::write_all(STDOUT_FILENO, what);
 }
 
-// Names a record that differs or is bad, by its line.
+// Names a record that differs or is bad, by its line. Only the first twenty are named.
 fn name_wrong(p: Progress, what: &[u8]) {
-    if is_named(p.counts) {
+    if p.counts.differ < 20 {
         print_line(p.line, what);
     }
 }
 
+// One more record, of which `wrong` are wrong: 1 or 0.
 fn add_record(mut p: Progress, wrong: u64) -> Progress
     requires { ⌜ Kept p ⌝ }
     ensures { λ r. ⌜ Kept r × (r .left ≡ p .left) ⌝ }
 {
     let line = one_more(p.line);
-    let counts = counted(p.counts, wrong);
+    let counts = Counts {
+        cases: one_more(p.counts.cases),
+        differ: std::num::wrapping_add_u64(p.counts.differ, wrong),
+    };
     p.line = line;
     p.counts = counts;
     p.found = 0;

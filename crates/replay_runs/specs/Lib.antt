@@ -1,2 +1,0 @@
--- What the contracts of a run's record cite.
-pub mod Room
