@@ -129,10 +129,11 @@ fn iterate(
 fn at_violation(v: f64, totals: Totals) -> Totals
     ensures { λ r. ⌜ r ≡ here.atViolation v totals ⌝ }
 {
+    let counts = totals.counts;
     Totals {
         violation: v,
         iterations: totals.iterations,
-        counts: totals.counts,
+        counts: counts,
     }
 }
 

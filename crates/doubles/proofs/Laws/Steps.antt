@@ -182,6 +182,10 @@ module _ {A : Type 0} (f : ℕ → A → Stage A) (a₀ : A) where
       let m : k + 1 + (n - (k + 1)) ≡ n = omega arith in
       rw m at (ended (k + 1) (n - (k + 1)) x o (q ∙ steps-more (λ i. next (f i)) (going a₀) k (going a) e))
 
+  -- one turn more
+  pub upto-next : (k n : ℕ) (a : A) → k ≡ n → going a ≡ upto f k a₀ → upto f (n + 1) a₀ ≡ f k a
+  upto-next k n a h e = rw (← h) (sym (steps-more (λ i. next (f i)) (going a₀) k (going a) e))
+
   -- the same for a turn that answers by a bool: true, and b is left behind, or false
   pub upto-true : (k : ℕ) (a b : A) (r : Bool) → going a ≡ upto f k a₀ → pick r (going b) bad ≡ f k a → r ≡ true → going b ≡ upto f (k + 1) a₀
   upto-true k a b r e q t = upto-more k a b e (rw t at q)

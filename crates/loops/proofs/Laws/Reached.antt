@@ -55,7 +55,7 @@ module _ (g : Given) (S : Settings) where
       → Turned w fit scratch 0 (record { violation = #0; iterations = 0; counts = record { epochs = 0; extrapolations = 0 } }) w fit scratch
   unfolding start
   turned-none w fit scratch ew ef ek =
-      let c = record { violation = #0; iterations = 0; counts = record { epochs = 0; extrapolations = 0 } } in
+      let c : Totals = record { violation = #0; iterations = 0; counts = record { epochs = 0; extrapolations = 0 } } in
       record {
         held = record { weights = refl; fits = refl; room = refl; prepared = refl };
         totalled = record { iterations = omega arith; counts = record { epochs = omega arith; extrapolations = omega arith } };
@@ -104,7 +104,7 @@ module _ (g : Given) (S : Settings) where
       pub turned-last : ((sets : List (List ℕ)) → showsEnd (g .shape) S r w fit scratch'
           (concluded (turn (taskIn g (S .penalty) scratch) (g .targets) S (S .iterations) (stateOf c w fit (keptHere (g .shape) S scratch) sets))))
           → showsEnd (g .shape) S r w fit scratch' (Run scratch₀)
-      unfolding run
+      unfolding run taken
       turned-last E =
           let n : turns scratch₀ (S .iterations + 1) ≡ taken = upto-next _ _ t (S .iterations) _ h (R .stage) in
-          rw (n) (rw (R .held .prepared, ← h) at (E (setsOf (turns scratch₀ t))))
+          rw (n, h) (rw (R .held .prepared) at (E (setsOf (turns scratch₀ (S .iterations)))))

@@ -14,7 +14,7 @@ use Rattle.doubles.specs.Num.{pick, finite, _or_}
 use Rattle.doubles.specs.Steps.{Stage, going, stopped, bad, andThen, tab}
 use Rattle.doubles.specs.Buffer.{put}
 use Rattle.doubles.proofs.Laws.Steps.{length-tab, getD-tab, all-each, picked, not-picked}
-use Rattle.doubles.proofs.Laws.Choice.{and-both, or-true}
+use Rattle.doubles.proofs.Laws.Choice.{and-both}
 use Rattle.designs.specs.Given.{Given}
 use Rattle.designs.specs.declared.Shape.{Shape}
 use Rattle.runs.specs.WorkingSet.{smaller, size, workingSet, padded}
@@ -126,6 +126,11 @@ module _ (T : Task) (s : Shape) (ep : T .p ≡ s .p) (w fit l : List Float) (roo
         rw (there, part-behind l (s .p + s .p) (3 * s .p) (suc (S .depth) * s .p) (violations T w fit) h (omega arith))
 
 -- ---- the turn
+or-true : (b : Bool) → (b or true) ≡ true
+unfolding _or_
+or-true true = refl
+or-true false = refl
+
 module _ (T : Task) (w fit l : List Float) (v : Float) (m : List Float) (e : going (record { largest = v; scratch = m }) ≡ measured T w fit l) where
   found : (allKnown T w fit ≡ true) × _≡_ {A = Measured} (record { largest = v; scratch = m }) (record { largest = worst T w fit; scratch = put l (T .p + T .p) (violations T w fit) })
   unfolding measured
