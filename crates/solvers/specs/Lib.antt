@@ -1,2 +1,2 @@
--- What the contracts are stated with; what a caller relies on stands in the crate `runs`.
-pub mod Buffers
+-- What a caller relies on stands in the crate `runs`.
+pub mod Inner

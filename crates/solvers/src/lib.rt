@@ -2,25 +2,27 @@
 // 1 to 6, it changes no lent buffer, and with 7 it leaves the room it used at zero.
 ghost use mathlib.Core.Path.{_≡_};
 ghost use Prim.Native.Nat.{_≤_};
-ghost use mathlib.Core.Bool.{true};
 ghost use lib.Ieee.{le};
 ghost use lib.ListN.{length};
 ghost use Rattle.doubles.specs.Num as num;
 ghost use Rattle.doubles.specs.Steps.{tab};
-ghost use Rattle.doubles.specs.Answer.{refused as refused'};
+ghost use Rattle.doubles.specs.Answer.{none, verdictOf};
+ghost use Rattle.designs.specs.Given.{given};
 ghost use Rattle.runs.specs.Call as call;
+ghost use Rattle.runs.specs.declared.Fit.the-variants.{Refused};
 ghost use Rattle.inner_loops.specs.Reading.{Ready};
-ghost use Rattle.solvers.specs.Buffers.{lent};
+ghost use Rattle.solvers.specs.Inner.Left as left;
 use columns::clear;
 use designs::Shape;
-use designs::inner::admit;
+use designs::inner::check_sized;
 use designs::inner::sizes_agree;
 use doubles::Refusal;
 use doubles::Verdict;
 use doubles::inner::both;
+use doubles::inner::refused;
 use leaves::penalties::inner::alpha_in_range;
-use leaves::penalties::inner::in_range;
-use loops::OuterStep;
+use leaves::penalties::inner::check_range;
+use loops::RunEnd;
 use loops::Totals;
 use loops::solve;
 use runs::Fit;
@@ -40,34 +42,38 @@ fn depth_in_range(settings: Settings) -> bool
     true
 }
 
-fn settings_in_range(settings: Settings) -> bool
-    ensures { λ r. ⌜ r ≡ call.settingsLegal settings ⌝ }
+fn start_in_range(settings: Settings) -> bool
+    ensures { λ r. ⌜ r ≡ call.startLegal settings ⌝ }
+{
+    both(1 <= settings.start, settings.start <= 8192)
+}
+
+// 2, for the first setting that is outside its range.
+fn check_settings(settings: Settings) -> Verdict
+    ensures { λ r. ⌜ verdictOf r ≡ call.settingsFault settings ⌝ }
 {
     if 1000 < settings.iterations {
-        return false;
+        return refused(2, 0);
     }
     if 100000 < settings.epochs {
-        return false;
+        return refused(2, 0);
     }
-    if settings.start < 1 {
-        return false;
-    }
-    if 8192 < settings.start {
-        return false;
+    if start_in_range(settings) {} else {
+        return refused(2, 0);
     }
     if depth_in_range(settings) {} else {
-        return false;
+        return refused(2, 0);
     }
     if alpha_in_range(settings.tolerance) {} else {
-        return false;
+        return refused(2, 0);
     }
     let penalty = settings.penalty;
-    in_range(penalty)
+    check_range(penalty)
 }
 
 // 3p, or (2K+5)·p + n with extrapolation.
 fn scratch_room(shape: Shape, settings: Settings) -> usize
-    requires { ⌜ (shape .n ≤ 65536) × (shape .p ≤ 8192) × (call.settingsLegal settings ≡ true) ⌝ }
+    requires { ⌜ (shape .n ≤ 65536) × (shape .p ≤ 8192) × (call.settingsFault settings ≡ none) ⌝ }
     ensures { λ r. ⌜ r ≡ call.scratchRoom shape settings ⌝ }
 {
     if settings.extrapolate {
@@ -76,16 +82,51 @@ fn scratch_room(shape: Shape, settings: Settings) -> usize
     3 * shape.p
 }
 
-// ---- the answer
-
-fn refused(number: u32, place: usize) -> Fit
-    ensures { λ r. ⌜ call.fitOf r ≡ refused' number place ⌝ }
+// Whether each lent buffer has its room.
+fn has_room(
+    shape: Shape,
+    settings: Settings,
+    w: &[f64],
+    fit: &[f64],
+    indices: &[u32],
+    scratch: &[f64],
+) -> bool
+    requires { ⌜ (shape .n ≤ 65536) × (shape .p ≤ 8192) × (call.settingsFault settings ≡ none) ⌝ }
+    ensures { λ r. ⌜ r ≡ call.roomy shape settings (call.lent (now (w .entry)) (now (fit .entry)) (now (indices .entry)) (now (scratch .entry))) ⌝ }
 {
-    Fit::Refused(Refusal {
-        number: number,
-        place: place,
-    })
+    let room = scratch_room(shape, settings);
+    let used = both(shape.p <= indices.len(), room <= scratch.len());
+    both(shape.p <= w.len(), both(shape.n <= fit.len(), used))
 }
+
+// All tests of a whole call: 1, then the settings' 2, then 3 to 6.
+fn check_fit(
+    shape: Shape,
+    starts: &[u32],
+    rows: &[u32],
+    values: &[f64],
+    y: &[f64],
+    settings: Settings,
+    w: &[f64],
+    fit: &[f64],
+    indices: &[u32],
+    scratch: &[f64],
+) -> Verdict
+    ensures { λ r. ⌜ (let g = given shape (now (starts .entry)) (now (rows .entry)) (now (values .entry)) (now (y .entry)) in
+        verdictOf r ≡ call.fitFault g settings (call.lent (now (w .entry)) (now (fit .entry)) (now (indices .entry)) (now (scratch .entry)))) ⌝ }
+{
+    let fits = y.len() == shape.n;
+    if both(sizes_agree(shape, starts, rows, values), fits) {} else {
+        return refused(1, 0);
+    }
+    if let Verdict::Refused(r) = check_settings(settings) {
+        return Verdict::Refused(r);
+    }
+    let room = has_room(shape, settings, w, fit, indices, scratch);
+    check_sized(shape, starts, rows, values, y, room)
+}
+
+// ---- the answer
 
 // Status is 1 if the violation is at most the tolerance, else 2.
 fn status(violation: f64, tolerance: f64) -> u32
@@ -95,7 +136,7 @@ fn status(violation: f64, tolerance: f64) -> u32
 }
 
 fn report(totals: Totals, tolerance: f64) -> Report
-    ensures { λ r. ⌜ r ≡ record { status = num.pick (le (totals .violation) tolerance) 1 2; violation = totals .violation; iterations = totals .iterations; epochs = totals .counts .epochs; extrapolations = totals .counts .extrapolations } ⌝ }
+    ensures { λ r. ⌜ r ≡ left.reportFrom totals tolerance ⌝ }
 {
     let counts = totals.counts;
     Report {
@@ -107,16 +148,17 @@ fn report(totals: Totals, tolerance: f64) -> Report
     }
 }
 
-// Refusal 7: the weights and the fit are cleared.
-fn give_up(w: &mut [f64], fit: &mut [f64]) -> Fit
-    ensures { λ r. ⌜ (call.fitOf r ≡ refused' 7 0) × (now (w .exit) ≡ call.zeros (length (now (w .entry)))) × (now (fit .exit) ≡ call.zeros (length (now (fit .entry)))) ⌝ }
+// What a run that was given up leaves: zero weights and zero fit.
+fn give_up(refusal: Refusal, w: &mut [f64], fit: &mut [f64]) -> Fit
+    ensures { λ r. ⌜ (r ≡ Refused refusal) × (now (w .exit) ≡ call.zeros (length (now (w .entry))))
+        × (now (fit .exit) ≡ call.zeros (length (now (fit .entry)))) ⌝ }
 {
     clear(w);
     clear(fit);
-    refused(7, 0)
+    Fit::Refused(refusal)
 }
 
-// The run's answer, over buffers of exactly their room. Scratch and indices are cleared; after refusal 7 the weights and the fit too.
+// The run's answer, over buffers of exactly their room. Scratch and indices are cleared; where the run was given up, the weights and the fit too.
 fn fit_inside(
     shape: Shape,
     starts: &[u32],
@@ -129,14 +171,15 @@ fn fit_inside(
     indices: &mut [u32],
     scratch: &mut [f64],
 ) -> Fit
-    requires { ⌜ Ready shape (now starts) (now rows) (now values) (now y) settings (now w) (now fit) (now scratch) × (length (now indices) ≡ shape .p) ⌝ }
-    ensures { λ r. ⌜ (call.fitOf r ≡ call.ended settings (call.fitted shape (now (starts .entry)) (now (rows .entry)) (now (values .entry)) (now (y .entry)) settings))
-        × (now (w .exit) ≡ call.weightsOf (shape .p) (call.fitted shape (now (starts .entry)) (now (rows .entry)) (now (values .entry)) (now (y .entry)) settings))
-        × (now (fit .exit) ≡ call.fitEntries (shape .n) (call.fitted shape (now (starts .entry)) (now (rows .entry)) (now (values .entry)) (now (y .entry)) settings))
+    requires { ⌜ Ready (given shape (now starts) (now rows) (now values) (now y)) settings (now w) (now fit) (now scratch)
+        × (length (now indices) ≡ shape .p) ⌝ }
+    ensures { λ r. ⌜ (let g = given shape (now (starts .entry)) (now (rows .entry)) (now (values .entry)) (now (y .entry)) in
+        (call.fitOf r ≡ call.answer settings (call.fitted g settings))
+        × left.Leaves shape (call.fitted g settings) (now (w .exit)) (now (fit .exit))
         × (now (indices .exit) ≡ tab (λ j. 0) (shape .p))
-        × (now (scratch .exit) ≡ call.zeros (call.scratchRoom shape settings)) ⌝ }
+        × (now (scratch .exit) ≡ call.zeros (call.scratchRoom shape settings))) ⌝ }
 {
-    let done = solve(
+    let ended = solve(
         shape,
         starts,
         rows,
@@ -150,14 +193,51 @@ fn fit_inside(
     );
     clear(scratch);
     clear_indices(indices);
-    match done {
-        OuterStep::Stopped(totals) => Fit::Done(report(totals, settings.tolerance)),
-        OuterStep::Going(_) => give_up(w, fit),
-        OuterStep::Bad => give_up(w, fit),
+    match ended {
+        RunEnd::GivenUp(r) => give_up(r, w, fit),
+        RunEnd::Done(totals) => Fit::Done(report(totals, settings.tolerance)),
     }
 }
 
-// The whole call: 1, then the settings' 2, then 3 to 6, then the run on the first places of each lent buffer.
+// The run on the first places of each lent buffer, behind the tests.
+fn fit_tested(
+    shape: Shape,
+    starts: &[u32],
+    rows: &[u32],
+    values: &[f64],
+    y: &[f64],
+    settings: Settings,
+    w: &mut [f64],
+    fit: &mut [f64],
+    indices: &mut [u32],
+    scratch: &mut [f64],
+) -> Fit
+    requires { ⌜ (let b = call.lent (now w) (now fit) (now indices) (now scratch) in
+        call.fitFault (given shape (now starts) (now rows) (now values) (now y)) settings b ≡ none) ⌝ }
+    ensures { λ r. ⌜ (let g = given shape (now (starts .entry)) (now (rows .entry)) (now (values .entry)) (now (y .entry)) in
+        let b = call.lent (now (w .entry)) (now (fit .entry)) (now (indices .entry)) (now (scratch .entry)) in
+        (call.fitOf r ≡ call.answer settings (call.fitted g settings))
+        × (call.lent (now (w .exit)) (now (fit .exit)) (now (indices .exit)) (now (scratch .exit))
+        ≡ call.buffers shape settings b (call.fitted g settings))) ⌝ }
+{
+    let p = shape.p;
+    let n = shape.n;
+    let room = scratch_room(shape, settings);
+    fit_inside(
+        shape,
+        starts,
+        rows,
+        values,
+        y,
+        settings,
+        &mut w[..p],
+        &mut fit[..n],
+        &mut indices[..p],
+        &mut scratch[..room],
+    )
+}
+
+// The whole call.
 pub fn coordinate_descent(
     shape: Shape,
     starts: &[u32],
@@ -170,39 +250,35 @@ pub fn coordinate_descent(
     indices: &mut [u32],
     scratch: &mut [f64],
 ) -> Fit
-    ensures { λ r. ⌜ (call.fitOf r ≡ call.fitCall shape (now (starts .entry)) (now (rows .entry)) (now (values .entry)) (now (y .entry)) settings (lent (now (w .entry)) (now (fit .entry)) (now (indices .entry)) (now (scratch .entry))))
-        × (lent (now (w .exit)) (now (fit .exit)) (now (indices .exit)) (now (scratch .exit)) ≡ call.fitLeft shape (now (starts .entry)) (now (rows .entry)) (now (values .entry)) (now (y .entry)) settings (lent (now (w .entry)) (now (fit .entry)) (now (indices .entry)) (now (scratch .entry)))) ⌝ }
+    ensures { λ r. ⌜ (let g = given shape (now (starts .entry)) (now (rows .entry)) (now (values .entry)) (now (y .entry)) in
+        let b = call.lent (now (w .entry)) (now (fit .entry)) (now (indices .entry)) (now (scratch .entry)) in
+        (call.fitOf r ≡ call.fitCall g settings b)
+        × (call.lent (now (w .exit)) (now (fit .exit)) (now (indices .exit)) (now (scratch .exit)) ≡ call.fitLeft g settings b)) ⌝ }
 {
-    let fits = y.len() == shape.n;
-    if both(sizes_agree(shape, starts, rows, values), fits) {} else {
-        return refused(1, 0);
-    }
-    if settings_in_range(settings) {} else {
-        return refused(2, 0);
-    }
-    let p = shape.p;
-    let n = shape.n;
-    let room = scratch_room(shape, settings);
-    let roomy = both(
-        p <= w.len(),
-        both(
-            n <= fit.len(),
-            both(p <= indices.len(), room <= scratch.len()),
-        ),
-    );
-    match admit(shape, starts, rows, values, y, fits, roomy) {
+    match check_fit(
+        shape,
+        starts,
+        rows,
+        values,
+        y,
+        settings,
+        w,
+        fit,
+        indices,
+        scratch,
+    ) {
         Verdict::Refused(r) => Fit::Refused(r),
-        Verdict::Fine => fit_inside(
+        Verdict::Fine => fit_tested(
             shape,
             starts,
             rows,
             values,
             y,
             settings,
-            &mut w[..p],
-            &mut fit[..n],
-            &mut indices[..p],
-            &mut scratch[..room],
+            w,
+            fit,
+            indices,
+            scratch,
         ),
     }
 }

@@ -5,69 +5,60 @@ use Prim.Native.Nat.{ℕ, _+_, _*_, _≤_}
 use native.Mathlib.Nat.{mul-le-mul}
 use native.Mathlib.Omega.{arith}
 use mathlib.Core.List.{List}
-use lib.Dec.{leb, eqb}
+use lib.Dec.{leb}
 use lib.ListN.{length, take}
 use lib.Seq.{length-take-le}
-use lib.Ieee.{Float, le}
+use lib.Ieee.{Float}
 use borrow.Author.Tests.{leb-true, eqb-true}
-use Rattle.doubles.specs.Num.{pick, _and_}
-use Rattle.doubles.specs.Steps.{Stage}
-use Rattle.doubles.proofs.Laws.Choice.{and-both}
-use Rattle.doubles.specs.Answer.{Outcome, refused, answered}
+use Rattle.doubles.specs.Num.{_and_}
+use Rattle.doubles.specs.Steps.{tab}
+use Rattle.doubles.specs.Buffer.{put}
+use Rattle.doubles.specs.Answer.{Outcome, refused, answered, Fault, none, verdictOf}
 use Rattle.doubles.specs.declared.Refusal.{Refusal}
-use Rattle.doubles.specs.Answer.{refused, none, verdictOf}
-use Rattle.designs.specs.Checks.{sizes, admitted}
-use Rattle.designs.specs.declared.Shape.{Shape}
 use Rattle.doubles.specs.declared.Verdict.{Verdict}
 use Rattle.doubles.specs.declared.Verdict.the-variants as Verdict
-use Rattle.designs.proofs.Laws.Passed.{Admitted, admits}
-use Rattle.runs.specs.Run.{State}
-use Rattle.runs.specs.Call.{settingsLegal, scratchRoom, Lent, roomy, fitFault, fitted, reportOf, ended, zeros, weightsOf, fitEntries, buffers, fitCall, fitLeft}
+use Rattle.doubles.proofs.Laws.Choice.{and-both}
+use Rattle.doubles.proofs.Laws.Verdict.{stop, pass}
+use Rattle.designs.specs.Given.{Given}
+use Rattle.designs.specs.declared.Shape.{Shape}
+use Rattle.runs.specs.Call.{scratchRoom, Lent, lent, roomy, fitFault, fitted, End, untouched, givenUp, done, fitEnd, reportOf, answer, zeros, filled}
+use Rattle.runs.specs.Call.{buffers, fitCall, fitLeft}
 use Rattle.runs.specs.declared.Settings.{Settings}
+use Rattle.runs.specs.declared.Fit.{Fit}
+use Rattle.runs.specs.declared.Fit.the-variants as Fit
 use Rattle.runs.specs.declared.Report.{Report}
+use Rattle.runs.proofs.Laws.Passed.{passed}
 use Rattle.inner_loops.specs.Reading.{Ready}
-use Rattle.loops.specs.Reading.{outerStage, setsOf}
+use Rattle.loops.specs.Reading.{endOf, setsAt}
 use Rattle.loops.specs.declared.Totals.{Totals}
-use Rattle.loops.specs.declared.OuterStep.{OuterStep}
-use Rattle.loops.specs.declared.OuterStep.the-variants as Outer'
-use Rattle.solvers.specs.Buffers.{lent}
+use Rattle.loops.specs.declared.RunEnd.{RunEnd}
+use Rattle.loops.specs.declared.RunEnd.the-variants as RunEnd
+use Rattle.solvers.specs.Inner.Left.{Leaves, reportFrom}
 
 -- ---- after the run
 -- d is what the run came to, and r shows it
-module _ (S : Settings) (p n : ℕ) (d : Stage State) (r : OuterStep) (w fit kept : List Float) (e : outerStage r w fit kept (setsOf d) ≡ d) where
-  abbrev pub Ends : Outcome Report → List Float → List Float → Type 0
-  Ends o w' fit' = (o ≡ ended S d) × (w' ≡ weightsOf p d) × (fit' ≡ fitEntries n d)
-
-  pub run-stopped : (c : Totals) → r ≡ Outer'.Stopped c → (x : Report)
-      → x ≡ record { status = pick (le (c .violation) (S .tolerance)) 1 2; violation = c .violation; iterations = c .iterations; epochs = c .counts .epochs; extrapolations = c .counts .extrapolations }
-      → Ends (answered x) w fit
+module _ (S : Settings) (s : Shape) (d : End) (r : RunEnd) (w fit kept : List Float) (e : endOf r w fit kept (setsAt d) ≡ d) where
+  pub run-done : (c : Totals) → r ≡ RunEnd.Done c → (x : Report) → x ≡ reportFrom c (S .tolerance) → (answered x ≡ answer S d) × Leaves s d w fit
   unfolding reportOf
-  run-stopped c h x ex = rw (← e, h, ex) (refl, refl, refl)
+  run-done c h x ex = rw (← e, h, ex) (refl, refl, refl)
 
-  module _ (w' fit' : List Float) (o : Outcome Report) (eo : o ≡ refused 7 0) (ew : w' ≡ zeros (length w)) (ef : fit' ≡ zeros (length fit))
-      (lw : length w ≡ p) (lf : length fit ≡ n) where
-    pub run-going : (c : Totals) → r ≡ Outer'.Going c → Ends o w' fit'
-    run-going c h = rw (← e, h, eo, ew, ef, lw, lf) (refl, refl, refl)
-
-    pub run-bad : r ≡ Outer'.Bad → Ends o w' fit'
-    run-bad h = rw (← e, h, eo, ew, ef, lw, lf) (refl, refl, refl)
+  pub run-given-up : (q : Refusal) → r ≡ RunEnd.GivenUp q → (w' fit' : List Float) → w' ≡ zeros (length w) → fit' ≡ zeros (length fit)
+      → length w ≡ s .p → length fit ≡ s .n → (refused (q .number) (q .place) ≡ answer S d) × Leaves s d w' fit'
+  run-given-up q h w' fit' ew ef lw lf = rw (← e, h, ew, ef, lw, lf) (refl, refl, refl)
 
 -- ---- the buffers
-pub lent-same : {w w' fit fit' : List Float} {indices indices' : List ℕ} {scratch scratch' : List Float} → w ≡ w' → fit ≡ fit' → indices ≡ indices'
-    → scratch ≡ scratch' → lent w fit indices scratch ≡ lent w' fit' indices' scratch'
-lent-same a b c d = λ i. lent (a i) (b i) (c i) (d i)
-
-pub rooms : (s : Shape) (S : Settings) (b : Lent) → roomy s S b ≡ true
-    → (s .p ≤ length (b .weights)) × (s .n ≤ length (b .fit)) × (s .p ≤ length (b .indices)) × (scratchRoom s S ≤ length (b .scratch))
-unfolding roomy
-rooms s S b e =
-    let w = and-both _ _ e in
-    let f = and-both _ _ (w .1) in
-    let i = and-both _ _ (f .1) in
-    (leb-true _ _ (w .0), leb-true _ _ (f .0), leb-true _ _ (i .0), leb-true _ _ (i .1))
+-- what is put at the front of each, together
+pub buffers-left : (s : Shape) (S : Settings) (b : Lent) (d : End) (w fit : List Float) (indices : List ℕ) (scratch v f : List Float) (i : List ℕ) (c : List Float)
+    → Leaves s d w fit → indices ≡ tab (λ j. 0) (s .p) → scratch ≡ zeros (scratchRoom s S)
+    → v ≡ put (b .weights) 0 w → f ≡ put (b .fit) 0 fit → i ≡ put (b .indices) 0 indices → c ≡ put (b .scratch) 0 scratch
+    → lent v f i c ≡ buffers s S b d
+buffers-left s S b (done q) w fit indices scratch v f i c l ei es ev ef ej ec = rw (ev, ef, ej, ec, l .0, l .1, ei, es)
+buffers-left s S b (givenUp number place) w fit indices scratch v f i c l ei es ev ef ej ec = rw (ev, ef, ej, ec, l .0, l .1, ei, es)
+buffers-left s S b (untouched number place) w fit indices scratch v f i c l ei es ev ef ej ec = absurd l
 
 -- as the tests are made, from the last buffer to the first
-pub rooms-tested : (s : Shape) (S : Settings) (b : Lent) (room : ℕ) (i f w : Bool) → room ≡ scratchRoom s S → i ≡ (leb (s .p) (length (b .indices)) and leb room (length (b .scratch)))
+pub rooms-tested : (s : Shape) (S : Settings) (b : Lent) (room : ℕ) (i f w : Bool) → room ≡ scratchRoom s S
+    → i ≡ (leb (s .p) (length (b .indices)) and leb room (length (b .scratch)))
     → f ≡ (leb (s .n) (length (b .fit)) and i) → w ≡ (leb (s .p) (length (b .weights)) and f) → w ≡ roomy s S b
 unfolding roomy
 rooms-tested s S b room i f w er ei ef ew = ew ∙ rw (ef, ei, er)
@@ -79,61 +70,47 @@ room-small K p n a b c =
     let m : (2 * K + 5) * p ≤ 25 * 8192 = mul-le-mul k b in
     omega arith
 
--- ---- the tests of a whole call
-module _ (s : Shape) (starts rows : List ℕ) (values y : List Float) (S : Settings) (b : Lent) where
-  -- the answer, and the buffers afterwards
+-- ---- behind the tests
+module _ (g : Given) (S : Settings) (b : Lent) (h : fitFault g S b ≡ none) where
+  -- each buffer has its room
+  pub record Rooms : Type 0 where
+    pub weights : g .shape .p ≤ length (b .weights)
+    pub fit : g .shape .n ≤ length (b .fit)
+    pub indices : g .shape .p ≤ length (b .indices)
+    pub scratch : scratchRoom (g .shape) S ≤ length (b .scratch)
+
+  pub rooms : Rooms
+  unfolding roomy
+  rooms =
+      let w = and-both _ _ (passed g S b h .1 .roomy) in
+      let f = and-both _ _ (w .1) in
+      let i = and-both _ _ (f .1) in
+      record { weights = leb-true _ _ (w .0); fit = leb-true _ _ (f .0); indices = leb-true _ _ (i .0); scratch = leb-true _ _ (i .1) }
+
+  -- and the run may be made over it
+  pub run-ready : Ready g S (take (g .shape .p) (b .weights)) (take (g .shape .n) (b .fit)) (take (scratchRoom (g .shape) S) (b .scratch))
+  run-ready =
+      let q = passed g S b h in
+      record {
+        whole = q .1 .whole;
+        samples = q .1 .sized .few;
+        features = q .1 .sized .narrow;
+        legal = q .0;
+        targets = eqb-true (length (g .targets)) (g .shape .n) (q .1 .fit);
+        weights = length-take-le (g .shape .p) (b .weights) (rooms .weights);
+        fits = length-take-le (g .shape .n) (b .fit) (rooms .fit);
+        room = length-take-le (scratchRoom (g .shape) S) (b .scratch) (rooms .scratch);
+      }
+
+-- ---- the whole call, by its verdict
+module _ (g : Given) (S : Settings) (b : Lent) (v : Verdict) (e : verdictOf v ≡ fitFault g S b) where
   abbrev pub Left : Outcome Report → Lent → Type 0
-  Left o b' = (o ≡ fitCall s starts rows values y S b) × (b' ≡ fitLeft s starts rows values y S b)
+  Left o b' = (o ≡ fitCall g S b) × (b' ≡ fitLeft g S b)
 
-  left-refused : (number place : ℕ) → fitFault s starts rows values y S b ≡ refused number place → (o : Outcome Report) → o ≡ refused number place → Left o b
-  unfolding fitCall fitLeft
-  left-refused number place f o e = rw (f) (e, refl)
+  pub left-refused : (r : Refusal) → v ≡ Verdict.Refused r → Left (refused (r .number) (r .place)) b
+  unfolding fitCall fitLeft fitEnd
+  left-refused r h = rw (← stop v e r h) (refl, refl)
 
-  -- 1 and 2
-  module _ (t : Bool) (et : t ≡ (sizes s starts rows values and eqb (length y) (s .n))) where
-    pub refused-1 : t ≡ false → (o : Outcome Report) → o ≡ refused 1 0 → Left o b
-    unfolding fitFault
-    refused-1 h o e = left-refused 1 0 (rw (← et, h)) o e
-
-    module _ (ht : t ≡ true) (u : Bool) (eu : u ≡ settingsLegal S) where
-      pub refused-2 : u ≡ false → (o : Outcome Report) → o ≡ refused 2 0 → Left o b
-      unfolding fitFault
-      refused-2 h o e = left-refused 2 0 (rw (← et, ht, ← eu, h)) o e
-
-      -- 3 to 6
-      module _ (hu : u ≡ true) (v : Verdict) (m : Bool) (em : m ≡ roomy s S b)
-          (ev : verdictOf v ≡ admitted s starts rows values y (eqb (length y) (s .n)) m) where
-        last : fitFault s starts rows values y S b ≡ verdictOf v
-        unfolding fitFault
-        last = rw (← et, ht, ← eu, hu, ← em, ev)
-
-        pub refused-later : (r : Refusal) → v ≡ Verdict.Refused r → Left (refused (r .number) (r .place)) b
-        refused-later r h = left-refused (r .number) (r .place) (last ∙ ap verdictOf h) (refused (r .number) (r .place)) refl
-
-        module _ (h : v ≡ Verdict.Fine) where
-          passed : fitFault s starts rows values y S b ≡ none
-          passed = last ∙ ap verdictOf h
-
-          pub left-run : (o : Outcome Report) (b' : Lent) → o ≡ ended S (fitted s starts rows values y S)
-              → b' ≡ buffers none s S (fitted s starts rows values y S) b → Left o b'
-          unfolding fitCall fitLeft
-          left-run o b' eo eb = rw passed (eo, eb)
-
-          -- each buffer has its room, and the run may be made over it
-          fine : Admitted s starts rows values (eqb (length y) (s .n)) m
-          fine = admits s starts rows values y (eqb (length y) (s .n)) m (sym ev ∙ ap verdictOf h)
-
-          pub run-rooms : (s .p ≤ length (b .weights)) × (s .n ≤ length (b .fit)) × (s .p ≤ length (b .indices)) × (scratchRoom s S ≤ length (b .scratch))
-          run-rooms = rooms s S b (sym em ∙ fine .roomy)
-
-          pub run-ready : Ready s starts rows values y S (take (s .p) (b .weights)) (take (s .n) (b .fit)) (take (scratchRoom s S) (b .scratch))
-          run-ready = record {
-            whole = fine .whole;
-            samples = fine .sized .few;
-            features = fine .sized .narrow;
-            legal = sym eu ∙ hu;
-            targets = eqb-true (length y) (s .n) (fine .fit);
-            weights = length-take-le (s .p) (b .weights) (run-rooms .0);
-            fits = length-take-le (s .n) (b .fit) (run-rooms .1);
-            room = length-take-le (scratchRoom s S) (b .scratch) (run-rooms .3);
-          }
+  pub left-run : v ≡ Verdict.Fine → (o : Outcome Report) (b' : Lent) → (o ≡ answer S (fitted g S)) × (b' ≡ buffers (g .shape) S b (fitted g S)) → Left o b'
+  unfolding fitCall fitLeft fitEnd
+  left-run h o b' q = rw (← pass v e h) q
