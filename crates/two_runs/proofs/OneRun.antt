@@ -14,9 +14,9 @@ use Rattle.doubles.proofs.Laws.Signs.{sum-same}
 use Rattle.runs.specs.Epoch.{Task, Point, constant, fine, visited}
 use Rattle.runs.specs.Extrapolation.{U, entry, better, pointOf}
 use Rattle.runs.specs.Run.{State, turn, start}
-use Rattle.runs.specs.Call.{zeros, solved}
+use Rattle.runs.specs.Call.{End, untouched, givenUp, done, zeros, solved}
 use Rattle.runs.specs.declared.Settings.{Settings}
-use Rattle.two_runs.specs.Stages.{both-going, both-stopped, both-bad, Both}
+use Rattle.two_runs.specs.Stages.{both-going, both-stopped, both-bad, Both, Ends, both-untouched, both-given-up, both-done}
 use Rattle.two_runs.specs.Alike.{Pair, Weights, Rows, Respects, Alike}
 use Rattle.two_runs.proofs.TwoRuns.{two-turns, two-solves}
 
@@ -31,6 +31,12 @@ abbrev Holds : (Point → Type 0) → Stage State → Type 0
 Holds P (going s) = P (s .inner .point)
 Holds P (stopped s) = P (s .inner .point)
 Holds P bad = Unit {0}
+
+-- and of the point that a solve is done at
+abbrev HoldsDone : (Point → Type 0) → End → Type 0
+HoldsDone P (done s) = P (s .inner .point)
+HoldsDone P (givenUp number place) = Unit {0}
+HoldsDone P (untouched number place) = Unit {0}
 
 module _ (T : Task) (y : List Float) (S : Settings) (P : Point → Type 0) (K : Keeps T y S P) where
   abbrev itself : Pair
@@ -82,10 +88,15 @@ module _ (T : Task) (y : List Float) (S : Settings) (P : Point → Type 0) (K : 
   held (both-stopped u) = u .points .other .1
   held both-bad = tt
 
+  held-done : {e e' : End} → Ends (Alike itself) e e' → HoldsDone P e
+  held-done (both-done u) = u .points .other .1
+  held-done both-given-up = tt
+  held-done both-untouched = tt
+
   -- at the beginning of every turn
   pub reached-keeps : (t : ℕ) (s : State) → upto (turn T y S) t (start T S) ≡ going s → P (s .inner .point)
   reached-keeps t s e = rw e at (held (two-turns itself respects t))
 
-  -- where the run stops: request 12 will cite it
-  pub solved-keeps : (s : State) → solved T y S ≡ stopped s → P (s .inner .point)
-  solved-keeps s e = rw e at (held (two-solves itself (λ j l. refl) (λ u. respects)))
+  -- where a solve is done
+  pub solved-keeps : (s : State) → solved T y S ≡ done s → P (s .inner .point)
+  solved-keeps s e = rw e at (held-done (two-solves itself (λ j l. refl) (λ u. respects)))
