@@ -42,6 +42,6 @@ unfolding
     eliminated dense laid dot squares lipschitz dots prepared gradientFrom gradient squaredError datafit moved movedAll
     extrapolated support size insert others workingSet gradientOf violationOf known allKnown violations worst knownIn worstIn newWeight movedBy
     finiteAt movedFinite fine visited visit visits keptNow entry systemRow system coefficients combined candidate objectiveOf allFinite better
-    chosen pointOf candidateOf fromSystem extrapolate due tried accelerated enough checked checks settled epoch epochs chosenSet iteration turn start run usable solved
-    fitted takes
+    chosen pointOf candidateOf fromSystem extrapolate due tried accelerated enough checked checks settled epoch epochs chosenSet iteration turn
+    start run usable solved fitted takes
 off-is-needed = (refl, refl)

@@ -3,11 +3,11 @@
 use mathlib.Core.Path.{_≡_, refl, sym, _∙_}
 use mathlib.Core.Bool.{Bool, true, false, false≢true}
 use mathlib.Core.List.{List}
-use Prim.Native.Nat.{ℕ, _<_}
+use Prim.Native.Nat.{ℕ}
 use lib.ListN.{length, length-set}
 use lib.Ieee.{Float, unlike, eq}
-use Rattle.doubles.specs.Num.{#0, at, pick}
-use Rattle.doubles.specs.Sign.{Turned, Signs}
+use Rattle.doubles.specs.Num.{#0, pick}
+use Rattle.doubles.specs.Sign.{Signs}
 use Rattle.doubles.proofs.Laws.Signs.{signs-at, signs-length}
 use Rattle.doubles.proofs.Laws.Steps.{length-tab}
 use Rattle.designs.specs.Design.{Design, moved}
@@ -16,7 +16,7 @@ use Rattle.designs.proofs.Laws.Moved.{moved-length, extrapolated-sure}
 use Rattle.runs.specs.Epoch.{Task, Point, movedBy, visited}
 use Rattle.runs.specs.Extrapolation.{pointOf}
 use Rattle.runs.specs.Run.{State}
-use Rattle.runs.specs.Call.{Lent, End, done, solved, zeros, filled, buffers}
+use Rattle.runs.specs.Call.{Lent, End, done, solved, filled, buffers}
 use Rattle.runs.specs.declared.Settings.{Settings}
 use Rattle.runs.proofs.Laws.Ends.{begun}
 use Rattle.runs.proofs.Laws.Left.{left-weight, left-fit}
