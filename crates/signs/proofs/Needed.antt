@@ -2,7 +2,7 @@
 -- entries of the system off its diagonal turn, so its solution is another one. The checker computes both runs. Assumes nothing.
 use mathlib.Core.Path.{_≡_, refl}
 use mathlib.Core.Bool.{true}
-use mathlib.Core.List.{[], _∷_}
+use mathlib.Core.List.{List, [], _∷_}
 use Prim.Native.Nat.{ℕ}
 use lib.Ieee.{Float, neg, add, sub, mul, div, lt, eq, le, ofInt, ofBits, isNan, round, sum as fsum, size as fsize, units, odd}
 use Rattle.doubles.specs.Num.{#0, #1, #2, _and_, _or_, abs, signum, finite, larger}
@@ -24,18 +24,19 @@ use Rattle.runs.specs.Extrapolation.{objectiveOf, allFinite, better, chosen, po
 use Rattle.runs.specs.Run.{accelerated, enough, checked, checks, settled, epoch, epochs, chosenSet, iteration, turn, start, run}
 use Rattle.runs.specs.Call.{End, untouched, givenUp, done, usable, solved, fitted}
 
-abbrev taken : End → ℕ
-taken (untouched number place) = 0
-taken (givenUp number place) = 0
-taken (done s) = s .inner .extrapolations
+-- the extrapolations that were taken, where the run is done
+abbrev taken : End → List ℕ
+taken (untouched number place) = []
+taken (givenUp number place) = []
+taken (done s) = s .inner .extrapolations ∷ []
 
 -- rows (1, x) and (0, z), targets 1 and -1, three epochs at depth 2
-unfoldable pub takes : Float → Float → ℕ
+unfoldable pub takes : Float → Float → List ℕ
 takes x z =
     taken (fitted (given (record { layout = Dense; n = 2; p = 2 }) [] [] (#1 ∷ x ∷ #0 ∷ z ∷ []) (#1 ∷ neg #1 ∷ []))
     (record { penalty = L1 #0; tolerance = #0; start = 2; iterations = 1; epochs = 3; extrapolate = true; depth = 2 }))
 
-pub off-is-needed : (takes #1 #2 ≡ 0) × (takes (neg #1) (neg #2) ≡ 1)
+pub off-is-needed : (takes #1 #2 ≡ 0 ∷ []) × (takes (neg #1) (neg #2) ≡ 1 ∷ [])
 unfolding
     neg add sub mul div lt eq le ofInt ofBits isNan round fsum fsize units odd _and_ _or_ abs signum finite larger put steps upward downward
     soft sumAbs value proxL1 prox excess violationL1 violation reduced cleared clearedBelow echelon clearedAbove backSubstituted regular readOff

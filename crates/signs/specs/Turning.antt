@@ -50,7 +50,7 @@ pub record SameRun (c : ℕ → Bool) (t : Bool) (S : Settings) (s s' : State) :
   pub weights : Signs (λ (j : ℕ). unlike (c j) t) (s .inner .point .weights) (s' .inner .point .weights)
   pub fit : Signs (λ (i : ℕ). t) (s .inner .point .fit) (s' .inner .point .fit)
 
--- the p weights and n fit entries in two calls' buffers turn likewise
+-- the p weights and n fit entries that two calls leave turn likewise
 pub record SameLeft (c : ℕ → Bool) (t : Bool) (s : Shape) (b b' : Lent) : Type 0 where
   pub weights : (j : ℕ) → j < s .p → Turned (unlike (c j) t) (at (b .weights) j) (at (b' .weights) j)
   pub fit : (i : ℕ) → i < s .n → Turned t (at (b .fit) i) (at (b' .fit) i)
@@ -60,8 +60,9 @@ pub record SameCall (c : ℕ → Bool) (t : Bool) (g g' : Given) (S : Settings) 
   -- "same refusal and place", of 1 to 6; and of 7 too, for the answers are the same
   pub refusal : fitFault g S b ≡ fitFault g' S b
   pub answer : fitCall g S b ≡ fitCall g' S b
+  -- both untouched, both given up, or both done
   pub run : Ends (SameRun c t S) (fitEnd g S b) (fitEnd g' S b)
-  -- and so does what they leave, unless 1 to 6 refuse: 7 leaves zeros
+  -- what is left where 1 to 6 do not refuse: 7 leaves zeros
   pub left : fitFault g S b ≡ none → SameLeft c t (g .shape) (fitLeft g S b) (fitLeft g' S b)
 
 -- ---- the plain way to turn: xs with place k negated where s k is true
