@@ -1,33 +1,30 @@
 -- What a completed run holds: every point that a run comes to is finite, and it stops only behind a check at which every violation was. Assumes nothing.
-use mathlib.Core.Path.{_≡_, refl, sym, _∙_}
-use mathlib.Core.Bool.{Bool, true, false}
+use mathlib.Core.Path.{_≡_, refl, sym, ap, _∙_}
+use mathlib.Core.Bool.{Bool, true, false, false≢true}
 use mathlib.Core.List.{List}
 use Prim.Native.Nat.{ℕ, _+_, _≤_, _<_}
-use native.Mathlib.Nat.{zero-add}
-use native.Mathlib.Omega.{arith}
 use lib.Dec.{eqb}
-use lib.ListN.{length}
-use lib.Ieee.{Float, nan, le}
+use lib.Ieee.{Float, le}
 use Rattle.doubles.specs.Num.{at, finite, pick, _or_}
-use Rattle.doubles.specs.Steps.{all, Stage, going, stopped, bad, andThen}
-use Rattle.doubles.specs.Buffer.{put}
-use Rattle.doubles.specs.Answer.{answered}
+use Rattle.doubles.specs.Steps.{Stage, going, stopped, bad, andThen}
+use Rattle.doubles.specs.Answer.{refused, answered, Fault}
 use Rattle.doubles.proofs.Laws.Choice.{and-both}
 use Rattle.doubles.proofs.Laws.Steps.{all-each}
-use Rattle.doubles.proofs.Laws.Buffer.{put-in}
 use Rattle.doubles.proofs.Laws.Finite.{largest-finite}
 use Rattle.doubles.proofs.Laws.Ends.{last-turn, going≢stopped, stopped≢bad, refused≢answered}
-use Rattle.doubles.specs.Answer.{refused, Fault, none}
-use Rattle.designs.specs.declared.Shape.{Shape}
+use Rattle.designs.specs.Given.{Given}
 use Rattle.designs.proofs.Laws.Layouts.{samples}
 use Rattle.runs.specs.Epoch.{Task, violationOf, known, allKnown, worst}
 use Rattle.runs.specs.Run.{Inner, epochs, State, chosenSet, iteration, ends, turn, start, run}
-use Rattle.runs.specs.Call.{Lent, fitFault, usableAt, solved, fitted, reportOf, answer, buffers, fitCall, fitLeft}
+use Rattle.runs.specs.Call.{Lent, fitFault, End, untouched, givenUp, done, solved, taskOf, fitted, behind, fitEnd}
+use Rattle.runs.specs.Call.{reportOf, answer, buffers, fitCall, fitLeft}
 use Rattle.runs.specs.declared.Settings.{Settings}
 use Rattle.runs.specs.declared.Report.{Report}
+use Rattle.runs.proofs.Laws.Ends.{begun, solved-done}
+use Rattle.runs.proofs.Laws.Left.{left-weight, left-fit}
 use Rattle.runs.proofs.Laws.Passed.{passed}
 use Rattle.two_runs.proofs.OneRun.{reached-keeps}
-use Rattle.endings.specs.NotFinite.{worstAt, taskOf}
+use Rattle.endings.specs.NotFinite.{worstAt}
 use Rattle.endings.specs.Completed.{Finite, Completed, CompletedCall}
 use Rattle.endings.proofs.Laws.Points.{Good, good-kept}
 
@@ -85,13 +82,8 @@ module _ (T : Task) (y : List Float) (S : Settings) where
         (reached-keeps T y S (Good (T .n) (T .p)) (good-kept T y S same) (l .turn) (l .before) (l .reached))
         (turn-stops (l .turn) (l .before) e (l .last ∙ r))
 
-    pub solved-completed : (e : State) → solved T y S ≡ stopped e → Completed (T .n) (T .p) e
-    unfolding solved
-    solved-completed e = go (all (usableAt T) (T .p))
-      where
-        go : (b : Bool) → pick b (run T y S) bad ≡ stopped e → Completed (T .n) (T .p) e
-        go true r = run-completed e r
-        go false r = absurd (stopped≢bad (sym r))
+    solved-completed : (e : State) → solved T y S ≡ done e → Completed (T .n) (T .p) e
+    solved-completed e r = run-completed e (solved-done T y S e r)
 
 -- ---- a whole call
 finite-left : (n p : ℕ) (w fit w' fit' : List Float) (v : Float) → Finite n p w fit v
@@ -103,33 +95,35 @@ finite-left n p w fit w' fit' v h k l = record {
   largest = h .largest;
 }
 
--- what is put at the front of a buffer stands there
-front : (l xs : List Float) (n i : ℕ) → length xs ≡ n → i < n → at (put l 0 xs) i ≡ at xs i
-front l xs n i e h = rw zero-add at (put-in l 0 xs i nan (omega arith) (rw e h))
-
-module _ (s : Shape) (starts rows : List ℕ) (values y : List Float) (S : Settings) (b : Lent) where
-  call-run : fitFault s starts rows values y S b ≡ none → (e : State) → fitted s starts rows values y S ≡ stopped e → Completed (s .n) (s .p) e
-  unfolding fitted
-  call-run h e r =
-      solved-completed (taskOf s starts rows values y S) y S
-      (passed s starts rows values y S b h .1 .sized .wide) (samples (s .layout) (s .n) (s .p) starts rows values) e r
-
-  call-left : (r : Report) → fitCall s starts rows values y S b ≡ answered r
-      → Finite (s .n) (s .p) (fitLeft s starts rows values y S b .weights) (fitLeft s starts rows values y S b .fit) (r .violation)
-  unfolding fitCall fitLeft reportOf
-  call-left r = go (fitFault s starts rows values y S b) refl (fitted s starts rows values y S) refl
+module _ (g : Given) (S : Settings) (b : Lent) where
+  call-run : (e : State) → fitEnd g S b ≡ done e → Completed (g .shape .n) (g .shape .p) e
+  unfolding fitEnd fitted
+  call-run e = go (fitFault g S b) refl
     where
-      go : (f : Fault) → fitFault s starts rows values y S b ≡ f → (x : Stage State) → fitted s starts rows values y S ≡ x → answer f S x ≡ answered r
-          → Finite (s .n) (s .p) (buffers f s S x b .weights) (buffers f s S x b .fit) (r .violation)
-      go none h (stopped e) q a =
-          let c = call-run h e q in
+      go : (f : Fault) → fitFault g S b ≡ f → behind f (fitted g S) ≡ done e → Completed (g .shape .n) (g .shape .p) e
+      go (answered u) h r =
+          let s = g .shape in
+          solved-completed (taskOf g S) (g .targets) S (passed g S b h .1 .sized .wide)
+          (samples (s .layout) (s .n) (s .p) (g .starts) (g .rows) (g .values)) e r
+      go (refused number place) h r = absurd (false≢true (ap begun r))
+
+  call-left : (r : Report) → fitCall g S b ≡ answered r
+      → Finite (g .shape .n) (g .shape .p) (fitLeft g S b .weights) (fitLeft g S b .fit) (r .violation)
+  unfolding fitCall fitLeft reportOf
+  call-left r = go (fitEnd g S b) refl
+    where
+      go : (x : End) → fitEnd g S b ≡ x → answer S x ≡ answered r
+          → Finite (g .shape .n) (g .shape .p) (buffers (g .shape) S b x .weights) (buffers (g .shape) S b x .fit) (r .violation)
+      go (done e) q a =
+          let c = call-run e q in
+          let w = e .inner .point .weights in
+          let f = e .inner .point .fit in
           let v : reportOf S e ≡ r = cc in
           rw (← v)
-          (finite-left (s .n) (s .p) (e .inner .point .weights) (e .inner .point .fit) _ _ (reportOf S e .violation) (c .numbers)
-          (λ j l. front (b .weights) (e .inner .point .weights) (s .p) j (c .weights) l) (λ i l. front (b .fit) (e .inner .point .fit) (s .n) i (c .fit) l))
-      go none h (going e) q a = absurd (refused≢answered a)
-      go none h bad q a = absurd (refused≢answered a)
-      go (refused number k) h x q a = absurd (refused≢answered a)
+          (finite-left (g .shape .n) (g .shape .p) w f _ _ (reportOf S e .violation) (c .numbers)
+          (left-weight (g .shape) S b w f (c .weights)) (left-fit (g .shape) S b w f (c .fit)))
+      go (givenUp number place) q a = absurd (refused≢answered a)
+      go (untouched number place) q a = absurd (refused≢answered a)
 
-  pub completed : CompletedCall s starts rows values y S b
+  pub completed : CompletedCall g S b
   completed = record { run = call-run; left = call-left }

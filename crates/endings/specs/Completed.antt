@@ -8,12 +8,10 @@ use lib.ListN.{length}
 use lib.Ieee.{Float}
 use Rattle.doubles.specs.Num.{at, finite}
 use Rattle.doubles.specs.Sign.{negzero}
-use Rattle.doubles.specs.Steps.{stopped}
 use Rattle.doubles.specs.Answer.{answered}
-use Rattle.doubles.specs.Answer.{none}
-use Rattle.designs.specs.declared.Shape.{Shape}
+use Rattle.designs.specs.Given.{Given}
 use Rattle.runs.specs.Run.{State}
-use Rattle.runs.specs.Call.{Lent, fitFault, fitted, fitCall, fitLeft}
+use Rattle.runs.specs.Call.{Lent, done, fitEnd, fitCall, fitLeft}
 use Rattle.runs.specs.declared.Settings.{Settings}
 use Rattle.runs.specs.declared.Report.{Report}
 
@@ -30,8 +28,8 @@ pub record Completed (n p : ℕ) (s : State) : Type 0 where
   pub fit : length (s .inner .point .fit) ≡ n
   pub numbers : Finite n p (s .inner .point .weights) (s .inner .point .fit) (s .violation)
 
--- of a whole call: the state that its run stops at, and what it answers and leaves in the first p weights and n fit entries
-pub record CompletedCall (s : Shape) (starts rows : List ℕ) (values y : List Float) (S : Settings) (b : Lent) : Type 0 where
-  pub run : fitFault s starts rows values y S b ≡ none → (e : State) → fitted s starts rows values y S ≡ stopped e → Completed (s .n) (s .p) e
-  pub left : (r : Report) → fitCall s starts rows values y S b ≡ answered r
-      → Finite (s .n) (s .p) (fitLeft s starts rows values y S b .weights) (fitLeft s starts rows values y S b .fit) (r .violation)
+-- of a whole call: the state that it is done at, and what it answers and leaves in the first p weights and n fit entries
+pub record CompletedCall (g : Given) (S : Settings) (b : Lent) : Type 0 where
+  pub run : (e : State) → fitEnd g S b ≡ done e → Completed (g .shape .n) (g .shape .p) e
+  pub left : (r : Report) → fitCall g S b ≡ answered r
+      → Finite (g .shape .n) (g .shape .p) (fitLeft g S b .weights) (fitLeft g S b .fit) (r .violation)

@@ -7,15 +7,14 @@ use Prim.Native.Nat.{ℕ, _+_, _≤_, _<_}
 use lib.ListN.{length, getD}
 use lib.Ieee.{Float, eq, le}
 use Rattle.doubles.specs.Num.{_⊖_, _⊘_, #0, #1, at, finite}
-use Rattle.doubles.specs.Steps.{going, bad, upto, over}
-use Rattle.doubles.specs.Answer.{refused, answered}
-use Rattle.designs.specs.Design.{design, moved, prepared}
-use Rattle.doubles.specs.Answer.{none}
-use Rattle.designs.specs.declared.Shape.{Shape}
+use Rattle.doubles.specs.Steps.{going, upto, over}
+use Rattle.doubles.specs.Answer.{refused, answered, none}
+use Rattle.designs.specs.Design.{moved}
+use Rattle.designs.specs.Given.{Given}
 use Rattle.runs.specs.Epoch as Epoch
-use Rattle.runs.specs.Epoch.{Task, task, gradientOf, violationOf, allKnown, worst, Point, newWeight, visit, visits}
-use Rattle.runs.specs.Run.{Inner, accelerated, checks, epoch, State, chosenSet, turn, start}
-use Rattle.runs.specs.Call.{Lent, usableAt, solved, fitFault, fitCall}
+use Rattle.runs.specs.Epoch.{Task, gradientOf, violationOf, allKnown, worst, Point, newWeight, visit, visits}
+use Rattle.runs.specs.Run.{Inner, accelerated, checks, epoch, State, chosenSet, turn, start, run}
+use Rattle.runs.specs.Call.{Lent, fitFault, givenUp, usableAt, solved, taskOf, fitCall}
 use Rattle.runs.specs.declared.Settings.{Settings}
 use Rattle.runs.specs.declared.Report.{Report}
 
@@ -89,21 +88,17 @@ module _ (T : Task) (y : List Float) (S : Settings) where
     fit : {q : Point} {j : ℕ} → Visited q j → eq (difference T q j) #0 ≡ false
         → (k : ℕ) → k < T .X .many j → finite (at (movedFit T q j) (T .X .row j k)) ≡ false → NotFinite
 
--- how a solve ends: it is over, and it breaks off exactly where it comes to such a number
+-- how a solve ends: its run is over, and it is given up exactly where it comes to such a number
 pub record SolveEnds (T : Task) (y : List Float) (S : Settings) : Type 0 where
-  pub ends : over (solved T y S) ≡ true
-  pub only : solved T y S ≡ bad → NotFinite T y S
-  pub whenever : NotFinite T y S → solved T y S ≡ bad
-
--- what a whole call's run is given
-abbrev pub taskOf : Shape → List ℕ → List ℕ → List Float → List Float → Settings → Task
-taskOf s starts rows values y S = task s starts rows values (S .penalty) (prepared (design s starts rows values) y)
+  pub ends : over (run T y S) ≡ true
+  pub only : (number place : ℕ) → solved T y S ≡ givenUp number place → NotFinite T y S
+  pub whenever : NotFinite T y S → solved T y S ≡ givenUp 7 0
 
 -- refusal 7 of a whole call
-pub record Seven (s : Shape) (starts rows : List ℕ) (values y : List Float) (S : Settings) (b : Lent) : Type 0 where
+pub record Seven (g : Given) (S : Settings) (b : Lent) : Type 0 where
   -- it is given only where the run comes to such a number
-  pub only : (place : ℕ) → fitCall s starts rows values y S b ≡ refused 7 place → NotFinite (taskOf s starts rows values y S) y S
+  pub only : (place : ℕ) → fitCall g S b ≡ refused 7 place → NotFinite (taskOf g S) (g .targets) S
   -- and there always, unless 1 to 6 came before
-  pub whenever : fitFault s starts rows values y S b ≡ none → NotFinite (taskOf s starts rows values y S) y S → fitCall s starts rows values y S b ≡ refused 7 0
+  pub whenever : fitFault g S b ≡ none → NotFinite (taskOf g S) (g .targets) S → fitCall g S b ≡ refused 7 0
   -- a call that answers met none
-  pub answers : (r : Report) → fitCall s starts rows values y S b ≡ answered r → NotFinite (taskOf s starts rows values y S) y S → ⊥
+  pub answers : (r : Report) → fitCall g S b ≡ answered r → NotFinite (taskOf g S) (g .targets) S → ⊥

@@ -2,3 +2,4 @@
 pub mod Settings
 pub mod Passed
 pub mod Ends
+pub mod Left

@@ -14,23 +14,19 @@ use Rattle.doubles.specs.Sign.{Turned, Signs, none, more}
 use Rattle.doubles.proofs.Laws.Turned.{turned-refl, turned-by}
 use Rattle.doubles.proofs.Laws.Compare.{eq-turned}
 use Rattle.doubles.proofs.Laws.Signs.{zero-turned, signs-at}
-use Rattle.doubles.specs.Steps.{steps, Stage}
+use Rattle.doubles.specs.Steps.{steps}
 use Rattle.designs.specs.Design.{dense, csc, laid}
+use Rattle.designs.specs.Given.{Given}
 use Rattle.designs.specs.Sound.{Rising, Held}
 use Rattle.designs.specs.declared.Layout.{Layout}
 use Rattle.designs.specs.declared.Layout.the-variants.{Dense, Csc}
-use Rattle.designs.specs.declared.Shape.{Shape}
-use Rattle.doubles.specs.Answer.{refused, answered}
-use Rattle.designs.specs.Checks.{none as no-fault}
+use Rattle.doubles.specs.Answer.{refused, answered, none as no-fault}
 use Rattle.runs.specs.WorkingSet.{isZero}
-use Rattle.runs.specs.Run.{State}
-use Rattle.runs.specs.Call.{Lent, fitFault, fitted, weightsOf, fitEntries, fitCall}
+use Rattle.runs.specs.Call.{Lent, fitFault, fitCall, fitLeft}
 use Rattle.runs.specs.declared.Report.{Report}
 use Rattle.runs.specs.declared.Settings.{Settings}
 use Rattle.runs.proofs.Laws.Passed.{passed}
-use Rattle.two_runs.specs.Stages.{Both, both-going, both-stopped, both-bad}
-use Rattle.signs.specs.Turning.{SameRun, SameCall, turned, signsOf}
-use Rattle.signs.proofs.Laws.Exact.{signs-zeros}
+use Rattle.signs.specs.Turning.{withNumbers, SameCall, turned, signsOf}
 use Rattle.signs.proofs.SignLaw.{sign-law-passed, sign-law}
 
 signs-of : (s : ℕ → Bool) (xs : List Float) → Signs s xs (turned s xs)
@@ -43,15 +39,15 @@ signs-refl [] = none
 signs-refl (x ∷ xs) = more turned-refl (signs-refl xs)
 
 -- "turn all targets": for every design and all settings
-pub targets-turned : (s : Shape) (starts rows : List ℕ) (values y : List Float) (S : Settings) (b : Lent)
-    → SameCall (λ (j : ℕ). false) true s starts rows values values y (turned (λ (i : ℕ). true) y) S b
-targets-turned s starts rows values y S b =
+pub targets-turned : (g : Given) (S : Settings) (b : Lent)
+    → SameCall (λ (j : ℕ). false) true g (withNumbers g (g .values) (turned (λ (i : ℕ). true) (g .targets))) S b
+targets-turned g S b =
     sign-law
     (record {
       signs = λ (i : ℕ). false;
-      stored = signs-refl values;
+      stored = signs-refl (g .values);
       columns = λ j k l m. turned-refl;
-      targets = signs-of (λ (i : ℕ). true) y;
+      targets = signs-of (λ (i : ℕ). true) (g .targets);
       off = λ e j. refl;
     })
     b
@@ -89,44 +85,31 @@ entry-turned c Csc n p starts rows H v j k l m =
     rw (csc-sign (H .rising) c (a + k) p (le-refl p) j l (omega arith) (omega arith)) at (signs-at v (a + k))
 
 -- "(extrapolation off) any set of columns, or both": for every design
-pub columns-turned : (c : ℕ → Bool) (t : Bool) (s : Shape) (starts rows : List ℕ) (values y : List Float) (S : Settings) (b : Lent) → S .extrapolate ≡ false
-    → SameCall c t s starts rows values (turned (signsOf (s .layout) c (s .p) starts) values) y (turned (λ (i : ℕ). t) y) S b
-columns-turned c t s starts rows values y S b off =
-    let σ = signsOf (s .layout) c (s .p) starts in
-    sign-law-passed b (signs-of σ values) (signs-of (λ (i : ℕ). t) y)
+pub columns-turned : (c : ℕ → Bool) (t : Bool) (g : Given) (S : Settings) (b : Lent) → S .extrapolate ≡ false
+    → SameCall c t g
+    (withNumbers g (turned (signsOf (g .shape .layout) c (g .shape .p) (g .starts)) (g .values)) (turned (λ (i : ℕ). t) (g .targets))) S b
+columns-turned c t g S b off =
+    let s = g .shape in
+    let σ = signsOf (s .layout) c (s .p) (g .starts) in
+    sign-law-passed g b (signs-of σ (g .values)) (signs-of (λ (i : ℕ). t) (g .targets))
     (λ e. record {
       signs = σ;
-      stored = signs-of σ values;
-      columns = entry-turned c (s .layout) (s .n) (s .p) starts rows (passed s starts rows values y S b e .1 .whole) (signs-of σ values);
-      targets = signs-of (λ (i : ℕ). t) y;
+      stored = signs-of σ (g .values);
+      columns = entry-turned c (s .layout) (s .n) (s .p) (g .starts) (g .rows) (passed g S b e .1 .whole) (signs-of σ (g .values));
+      targets = signs-of (λ (i : ℕ). t) (g .targets);
       off = λ e j. absurd (false≢true (sym off ∙ e));
     })
 
 -- ---- what follows from a call's law
-module _ {c : ℕ → Bool} {t : Bool} {s : Shape} {starts rows : List ℕ} {values values' y y' : List Float} {S : Settings} {b : Lent}
-    (law : SameCall c t s starts rows values values' y y' S b) where
+module _ {c : ℕ → Bool} {t : Bool} {g g' : Given} {S : Settings} {b : Lent} (law : SameCall c t g g' S b) where
   -- a NaN target is refused with 6 at the same place, and so is whatever else is refused
-  pub refused-both : (number place : ℕ) → fitCall s starts rows values y S b ≡ refused number place
-      → fitCall s starts rows values' y' S b ≡ refused number place
+  pub refused-both : (number place : ℕ) → fitCall g S b ≡ refused number place → fitCall g' S b ≡ refused number place
   refused-both number place e = sym (law .answer) ∙ e
 
   -- the tolerance is met by both or by none: the report is the same
-  pub report-both : (r : Report) → fitCall s starts rows values y S b ≡ answered r → fitCall s starts rows values' y' S b ≡ answered r
+  pub report-both : (r : Report) → fitCall g S b ≡ answered r → fitCall g' S b ≡ answered r
   report-both r e = sym (law .answer) ∙ e
 
-  -- what the call leaves in the lent weights and fit turns, where it is not refused with 1 to 6: at refusal 7 both are zeros
-  pub left-turned : fitFault s starts rows values y S b ≡ no-fault
-      → Signs (λ (j : ℕ). unlike (c j) t) (weightsOf (s .p) (fitted s starts rows values y S)) (weightsOf (s .p) (fitted s starts rows values' y' S))
-      × Signs (λ (i : ℕ). t) (fitEntries (s .n) (fitted s starts rows values y S)) (fitEntries (s .n) (fitted s starts rows values' y' S))
-  left-turned e = go _ _ (law .run e)
-    where
-      go : (r r' : Stage State) → Both (SameRun c t S) r r'
-          → Signs (λ (j : ℕ). unlike (c j) t) (weightsOf (s .p) r) (weightsOf (s .p) r') × Signs (λ (i : ℕ). t) (fitEntries (s .n) r) (fitEntries (s .n) r')
-      go _ _ (both-going u) = (signs-zeros _ (s .p), signs-zeros _ (s .n))
-      go _ _ (both-stopped u) = (u .weights, u .fit)
-      go _ _ both-bad = (signs-zeros _ (s .p), signs-zeros _ (s .n))
-
   -- a weight is left zero by both or by none
-  pub zeros-both : fitFault s starts rows values y S b ≡ no-fault → (j : ℕ)
-      → isZero (weightsOf (s .p) (fitted s starts rows values y S)) j ≡ isZero (weightsOf (s .p) (fitted s starts rows values' y' S)) j
-  zeros-both e j = eq-turned (signs-at (left-turned e .0) j) (zero-turned (unlike (c j) t))
+  pub zeros-both : fitFault g S b ≡ no-fault → (j : ℕ) → j < g .shape .p → isZero (fitLeft g S b .weights) j ≡ isZero (fitLeft g' S b .weights) j
+  zeros-both e j l = eq-turned (law .left e .weights j l) (zero-turned (unlike (c j) t))

@@ -4,3 +4,4 @@ pub mod Columns
 pub mod Preparation
 pub mod Steps
 pub mod Faults
+pub mod Left

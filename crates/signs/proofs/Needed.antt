@@ -2,45 +2,47 @@
 -- entries of the system off its diagonal turn, so its solution is another one. The checker computes both runs. Assumes nothing.
 use mathlib.Core.Path.{_≡_, refl}
 use mathlib.Core.Bool.{true}
-use mathlib.Core.List.{[], _∷_}
+use mathlib.Core.List.{List, [], _∷_}
 use Prim.Native.Nat.{ℕ}
 use lib.Ieee.{Float, neg, add, sub, mul, div, lt, eq, le, ofInt, ofBits, isNan, round, sum as fsum, size as fsize, units, odd}
 use Rattle.doubles.specs.Num.{#0, #1, #2, _and_, _or_, abs, signum, finite, larger}
 use Rattle.doubles.specs.Buffer.{put}
-use Rattle.doubles.specs.Steps.{steps, upward, downward, Stage, going, stopped, bad}
+use Rattle.doubles.specs.Steps.{steps, upward, downward}
 use Rattle.leaves.specs.Soft.{soft}
 use Rattle.leaves.specs.Penalty.{sumAbs, value, proxL1, prox, excess, violationL1, violation}
-use Rattle.systems.specs.Elimination.{reduced, cleared, clearedBelow, echelon, clearedAbove, backSubstituted, regular, readOff, eliminated, solution, solveCall}
+use Rattle.systems.specs.Elimination.{reduced, cleared, clearedBelow, echelon, clearedAbove, backSubstituted, regular, readOff, eliminated}
 use Rattle.leaves.specs.declared.penalties.separable.Penalty.the-variants.{L1}
 use Rattle.designs.specs.Design.{dense, laid, dot, squares, lipschitz, dots, prepared}
 use Rattle.designs.specs.Design.{gradientFrom, gradient, squaredError, datafit, moved, finiteAt, movedAll, extrapolated}
+use Rattle.designs.specs.Given.{given}
 use Rattle.designs.specs.declared.Layout.the-variants.{Dense}
 use Rattle.runs.specs.WorkingSet.{support, size, insert, others, workingSet}
 use Rattle.runs.specs.Epoch.{gradientOf, violationOf, known, allKnown, violations, worst, knownIn}
 use Rattle.runs.specs.Epoch.{worstIn, newWeight, movedBy, movedFinite, fine, visited, visit, visits}
 use Rattle.runs.specs.Extrapolation.{keptNow, entry, systemRow, system, coefficients, combined, candidate}
-use Rattle.runs.specs.Extrapolation.{objectiveOf, allFinite, better, chosen, pointOf, extrapolate, due, tried}
-use Rattle.runs.specs.Run.{accelerated, enough, checked, checks, settled, epoch, epochs, State, chosenSet, iteration, turn, start, run}
-use Rattle.runs.specs.Call.{usable, solved, fitted}
+use Rattle.runs.specs.Extrapolation.{objectiveOf, allFinite, better, chosen, pointOf, candidateOf, fromSystem, extrapolate, due, tried}
+use Rattle.runs.specs.Run.{accelerated, enough, checked, checks, settled, epoch, epochs, chosenSet, iteration, turn, start, run}
+use Rattle.runs.specs.Call.{End, untouched, givenUp, done, usable, solved, fitted}
 
-abbrev taken : Stage State → ℕ
-taken (stopped s) = s .inner .extrapolations
-taken (going s) = 0
-taken bad = 0
+-- the extrapolations that were taken, where the run is done
+abbrev taken : End → List ℕ
+taken (untouched number place) = []
+taken (givenUp number place) = []
+taken (done s) = s .inner .extrapolations ∷ []
 
 -- rows (1, x) and (0, z), targets 1 and -1, three epochs at depth 2
-unfoldable pub takes : Float → Float → ℕ
+unfoldable pub takes : Float → Float → List ℕ
 takes x z =
-    taken (fitted (record { layout = Dense; n = 2; p = 2 }) [] [] (#1 ∷ x ∷ #0 ∷ z ∷ []) (#1 ∷ neg #1 ∷ [])
+    taken (fitted (given (record { layout = Dense; n = 2; p = 2 }) [] [] (#1 ∷ x ∷ #0 ∷ z ∷ []) (#1 ∷ neg #1 ∷ []))
     (record { penalty = L1 #0; tolerance = #0; start = 2; iterations = 1; epochs = 3; extrapolate = true; depth = 2 }))
 
-pub off-is-needed : (takes #1 #2 ≡ 0) × (takes (neg #1) (neg #2) ≡ 1)
+pub off-is-needed : (takes #1 #2 ≡ 0 ∷ []) × (takes (neg #1) (neg #2) ≡ 1 ∷ [])
 unfolding
     neg add sub mul div lt eq le ofInt ofBits isNan round fsum fsize units odd _and_ _or_ abs signum finite larger put steps upward downward
     soft sumAbs value proxL1 prox excess violationL1 violation reduced cleared clearedBelow echelon clearedAbove backSubstituted regular readOff
-    eliminated solution solveCall dense laid dot squares lipschitz dots prepared gradientFrom gradient squaredError datafit moved movedAll
+    eliminated dense laid dot squares lipschitz dots prepared gradientFrom gradient squaredError datafit moved movedAll
     extrapolated support size insert others workingSet gradientOf violationOf known allKnown violations worst knownIn worstIn newWeight movedBy
     finiteAt movedFinite fine visited visit visits keptNow entry systemRow system coefficients combined candidate objectiveOf allFinite better
-    chosen pointOf extrapolate due tried accelerated enough checked checks settled epoch epochs chosenSet iteration turn start run usable solved
-    fitted takes
+    chosen pointOf candidateOf fromSystem extrapolate due tried accelerated enough checked checks settled epoch epochs chosenSet iteration turn
+    start run usable solved fitted takes
 off-is-needed = (refl, refl)

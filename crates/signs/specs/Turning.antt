@@ -7,29 +7,33 @@ use Prim.Native.Nat.{ℕ, suc, _%_, _<_}
 use lib.Dec.{leb}
 use lib.ListN.{getD}
 use lib.Ieee.{Float, unlike}
-use Rattle.doubles.specs.Num.{pick}
+use Rattle.doubles.specs.Num.{at, pick}
 use Rattle.doubles.specs.Sign.{flip, Turned, Signs}
 use Rattle.doubles.specs.Steps.{steps}
-use Rattle.designs.specs.Design.{design}
 use Rattle.doubles.specs.Answer.{none}
+use Rattle.designs.specs.Given.{Given, given, designOf}
 use Rattle.designs.specs.declared.Layout.{Layout}
 use Rattle.designs.specs.declared.Layout.the-variants.{Dense, Csc}
 use Rattle.designs.specs.declared.Shape.{Shape}
 use Rattle.runs.specs.Run.{State}
-use Rattle.runs.specs.Call.{Lent, fitFault, fitted, reportOf, fitCall}
+use Rattle.runs.specs.Call.{Lent, fitFault, fitEnd, reportOf, fitCall, fitLeft}
 use Rattle.runs.specs.declared.Settings.{Settings}
-use Rattle.two_runs.specs.Stages.{Both}
+use Rattle.two_runs.specs.Stages.{Ends}
+
+-- what is given, with other numbers
+abbrev pub withNumbers : Given → List Float → List Float → Given
+withNumbers g values y = given (g .shape) (g .starts) (g .rows) values y
 
 -- the second call is given the first one's numbers turned: column j where c j is true, and the targets where t is
-pub record Turning (c : ℕ → Bool) (t : Bool) (s : Shape) (starts rows : List ℕ) (values values' y y' : List Float) (S : Settings) : Type 0 where
+pub record Turning (c : ℕ → Bool) (t : Bool) (g : Given) (values' y' : List Float) (S : Settings) : Type 0 where
   -- the stored values differ in signs alone, also where no column holds them
   pub signs : ℕ → Bool
-  pub stored : Signs signs values values'
+  pub stored : Signs signs (g .values) values'
   -- "any set of columns": the stored entries of each, in either layout
-  pub columns : (j k : ℕ) → j < s .p → k < design s starts rows values .many j
-      → Turned (c j) (design s starts rows values .value j k) (design s starts rows values' .value j k)
+  pub columns : (j k : ℕ) → j < g .shape .p → k < designOf g .many j
+      → Turned (c j) (designOf g .value j k) (designOf (withNumbers g values' y') .value j k)
   -- "all targets"
-  pub targets : Signs (λ (i : ℕ). t) y y'
+  pub targets : Signs (λ (i : ℕ). t) (g .targets) y'
   -- "(extrapolation off)": with extrapolation on, no column is turned
   pub off : S .extrapolate ≡ true → (j : ℕ) → c j ≡ false
 
@@ -46,12 +50,20 @@ pub record SameRun (c : ℕ → Bool) (t : Bool) (S : Settings) (s s' : State) :
   pub weights : Signs (λ (j : ℕ). unlike (c j) t) (s .inner .point .weights) (s' .inner .point .weights)
   pub fit : Signs (λ (i : ℕ). t) (s .inner .point .fit) (s' .inner .point .fit)
 
+-- the p weights and n fit entries that two calls leave turn likewise
+pub record SameLeft (c : ℕ → Bool) (t : Bool) (s : Shape) (b b' : Lent) : Type 0 where
+  pub weights : (j : ℕ) → j < s .p → Turned (unlike (c j) t) (at (b .weights) j) (at (b' .weights) j)
+  pub fit : (i : ℕ) → i < s .n → Turned t (at (b .fit) i) (at (b' .fit) i)
+
 -- what demand 3 says of the two calls, each with the same buffers
-pub record SameCall (c : ℕ → Bool) (t : Bool) (s : Shape) (starts rows : List ℕ) (values values' y y' : List Float) (S : Settings) (b : Lent) : Type 0 where
+pub record SameCall (c : ℕ → Bool) (t : Bool) (g g' : Given) (S : Settings) (b : Lent) : Type 0 where
   -- "same refusal and place", of 1 to 6; and of 7 too, for the answers are the same
-  pub refusal : fitFault s starts rows values y S b ≡ fitFault s starts rows values' y' S b
-  pub answer : fitCall s starts rows values y S b ≡ fitCall s starts rows values' y' S b
-  pub run : fitFault s starts rows values y S b ≡ none → Both (SameRun c t S) (fitted s starts rows values y S) (fitted s starts rows values' y' S)
+  pub refusal : fitFault g S b ≡ fitFault g' S b
+  pub answer : fitCall g S b ≡ fitCall g' S b
+  -- both untouched, both given up, or both done
+  pub run : Ends (SameRun c t S) (fitEnd g S b) (fitEnd g' S b)
+  -- what is left where 1 to 6 do not refuse: 7 leaves zeros
+  pub left : fitFault g S b ≡ none → SameLeft c t (g .shape) (fitLeft g S b) (fitLeft g' S b)
 
 -- ---- the plain way to turn: xs with place k negated where s k is true
 unfoldable pub turned : (ℕ → Bool) → List Float → List Float

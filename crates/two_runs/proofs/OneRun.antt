@@ -3,7 +3,7 @@
 use mathlib.Core.Path.{_≡_, refl, sym, ap, _∙_}
 use mathlib.Core.Bool.{true, false}
 use mathlib.Core.List.{List}
-use Prim.Native.Nat.{ℕ, suc, _<_}
+use Prim.Native.Nat.{ℕ, suc, _+_, _<_}
 use native.Mathlib.Omega.{arith}
 use lib.ListN.{length}
 use lib.Seq.{ext-getD}
@@ -13,12 +13,13 @@ use Rattle.doubles.specs.Steps.{Stage, going, stopped, bad, upto}
 use Rattle.doubles.proofs.Laws.Signs.{sum-same}
 use Rattle.runs.specs.Epoch.{Task, Point, constant, fine, visited}
 use Rattle.runs.specs.Extrapolation.{U, entry, better, pointOf}
-use Rattle.runs.specs.Run.{State, turn, start}
-use Rattle.runs.specs.Call.{zeros, solved}
+use Rattle.runs.specs.Run.{State, turn, start, run}
+use Rattle.runs.specs.Call.{done, zeros, solved}
 use Rattle.runs.specs.declared.Settings.{Settings}
+use Rattle.runs.proofs.Laws.Ends.{solved-done}
 use Rattle.two_runs.specs.Stages.{both-going, both-stopped, both-bad, Both}
 use Rattle.two_runs.specs.Alike.{Pair, Weights, Rows, Respects, Alike}
-use Rattle.two_runs.proofs.TwoRuns.{two-turns, two-solves}
+use Rattle.two_runs.proofs.TwoRuns.{two-turns}
 
 -- P is kept from the zeros on: by a visit of a column whose constant is not 0 and whose numbers are finite, and by a candidate that is better
 pub record Keeps (T : Task) (y : List Float) (S : Settings) (P : Point → Type 0) : Type 0 where
@@ -86,6 +87,7 @@ module _ (T : Task) (y : List Float) (S : Settings) (P : Point → Type 0) (K : 
   pub reached-keeps : (t : ℕ) (s : State) → upto (turn T y S) t (start T S) ≡ going s → P (s .inner .point)
   reached-keeps t s e = rw e at (held (two-turns itself respects t))
 
-  -- where the run stops: request 12 will cite it
-  pub solved-keeps : (s : State) → solved T y S ≡ stopped s → P (s .inner .point)
-  solved-keeps s e = rw e at (held (two-solves itself (λ j l. refl) (λ u. respects)))
+  -- where a solve is done
+  pub solved-keeps : (s : State) → solved T y S ≡ done s → P (s .inner .point)
+  unfolding run
+  solved-keeps s e = rw (solved-done T y S s e) at (held (two-turns itself respects (S .iterations + 1)))

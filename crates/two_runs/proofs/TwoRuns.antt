@@ -9,7 +9,7 @@ use lib.Dec.{eqb}
 use lib.ListN.{length}
 use lib.Ieee.{Float, le}
 use Rattle.doubles.specs.Num.{_or_}
-use Rattle.doubles.specs.Steps.{all, Stage, upto}
+use Rattle.doubles.specs.Steps.{all, upto}
 use Rattle.doubles.proofs.Laws.Steps.{length-tab}
 use Rattle.doubles.specs.Answer.{answered}
 use Rattle.runs.specs.Epoch.{Task, Point, worst}
@@ -17,10 +17,10 @@ use Rattle.runs.specs.Extrapolation.{keeps}
 use Rattle.runs.specs.declared.Settings.{Settings}
 use Rattle.runs.specs.Run.{Inner, gained, accelerated, enough, checked, checks, settled, epoch, epochs}
 use Rattle.runs.specs.Run.{State, chosenSet, iteration, turn, start, run}
-use Rattle.runs.specs.Call.{usableAt, solved, reportOf, ended}
-use Rattle.two_runs.specs.Stages.{Stages, both-going, both-stopped, both-bad, Both}
+use Rattle.runs.specs.Call.{End, usableAt, solved, reportOf, answer}
+use Rattle.two_runs.specs.Stages.{Stages, both-going, both-stopped, both-bad, Both, Ends, both-untouched, both-given-up, both-done}
 use Rattle.two_runs.specs.Alike.{Pair, first, second, Points, Chosen, Rows, Respects, bare, rest, Alike}
-use Rattle.two_runs.proofs.Laws.Loops.{related, all-same, stages-map, upto-related, then-related}
+use Rattle.two_runs.proofs.Laws.Loops.{related, all-same, stages-map, upto-related, then-related, concluded-related}
 use Rattle.two_runs.proofs.Laws.Points.{weights-zero, all-known, worst-same, known-in, worst-in, chosen-same, chosen-fits, visits-related}
 use Rattle.two_runs.proofs.Laws.Rows.{room-now, row-next, rows-now, tried-related}
 
@@ -162,17 +162,18 @@ module _ (P : Pair) (H : Respects P) where
 -- ---- a solve: the relations need to be respected only where every column is usable
 pub two-solves : (P : Pair) → ((j : ℕ) → j < P .p → usableAt (first P) j ≡ usableAt (second P) j)
     → (all (usableAt (first P)) (P .p) ≡ true → Respects P)
-    → Both (Alike P) (solved (first P) (P .y) (P .settings)) (solved (second P) (P .y') (P .settings))
+    → Ends (Alike P) (solved (first P) (P .y) (P .settings)) (solved (second P) (P .y') (P .settings))
 unfolding solved run
-two-solves P h H = related (Both (Alike P)) (all-same _ _ (P .p) h) (λ e. two-turns P (H e) (P .settings .iterations + 1)) (λ e. both-bad)
+two-solves P h H =
+    related (Ends (Alike P)) (all-same _ _ (P .p) h) (λ e. concluded-related (two-turns P (H e) (P .settings .iterations + 1))) (λ e. both-given-up)
 
 -- ---- the report, whatever it holds, and the answer
 pub report-same : (P : Pair) (S : Settings) {s s' : State} → Alike P s s' → reportOf S s ≡ reportOf S s'
 unfolding reportOf
 report-same P S u = λ k. reportOf S (u .same k)
 
-pub ended-same : (R : State → State → Type 0) (S : Settings) → ((s s' : State) → R s s' → reportOf S s ≡ reportOf S s') → {r r' : Stage State}
-    → Both R r r' → ended S r ≡ ended S r'
-ended-same R S h (both-going u) = refl
-ended-same R S h (both-stopped u) = ap answered (h _ _ u)
-ended-same R S h both-bad = refl
+pub answer-same : (R : State → State → Type 0) (S : Settings) → ((s s' : State) → R s s' → reportOf S s ≡ reportOf S s') → {e e' : End}
+    → Ends R e e' → answer S e ≡ answer S e'
+answer-same R S h both-untouched = refl
+answer-same R S h both-given-up = refl
+answer-same R S h (both-done u) = ap answered (h _ _ u)

@@ -15,6 +15,7 @@ use Rattle.leaves.specs.Penalty.{prox}
 use Rattle.systems.specs.Elimination.{solveCall}
 use Rattle.leaves.specs.declared.penalties.separable.Penalty.the-variants.{L1, L1PlusL2, MCP}
 use Rattle.designs.specs.Design.{denseShape, nothing}
+use Rattle.designs.specs.Given.{Given, given}
 use Rattle.datafits.specs.Calls.{valueCall}
 use Rattle.worksets.specs.Call.{wsCall, wsLeft}
 use Rattle.runs.specs.Call.{Lent, fitCall, fitLeft}
@@ -73,14 +74,12 @@ lentLine b = bits (b .weights) ++ bits (b .fit) ++ b .indices ++ bits (b .scratc
 unfoldable pub dirty : Lent
 dirty = record { weights = tab (λ k. #2) 3; fit = tab (λ k. #2) 3; indices = tab (λ k. 9) 3; scratch = tab (λ k. #2) 7 }
 
--- rows (2,0), (0,2)
-unfoldable pub design : List Float
-design = #2 ∷ #0 ∷ #0 ∷ #2 ∷ []
+-- rows (2,0), (0,2), and the targets
+unfoldable pub diagonal : List Float → Given
+diagonal y = given (denseShape 2 2) nothing nothing (#2 ∷ #0 ∷ #0 ∷ #2 ∷ []) y
 
 unfoldable pub listing : ℕ → List Float → List ℕ
-listing alpha y =
-    told reportLine (fitCall (denseShape 2 2) nothing nothing design y (settings alpha) dirty)
-    ++ lentLine (fitLeft (denseShape 2 2) nothing nothing design y (settings alpha) dirty)
+listing alpha y = told reportLine (fitCall (diagonal y) (settings alpha) dirty) ++ lentLine (fitLeft (diagonal y) (settings alpha) dirty)
 
 -- what document 01 says of a run: the report, two weights and two fit entries; indices and scratch are zero, and the place too many is untouched
 abbrev pub listed : List ℕ → Float → Float → Float → Float → List ℕ

@@ -1,6 +1,6 @@
 -- A run that comes to a number that is not finite breaks off there: the test of that number fails, so its visit or check breaks off, then the epoch, the
--- turn and the run. Assumes nothing.
-use mathlib.Core.Path.{_≡_, refl, sym}
+-- turn and the run, and the solve is given up. Assumes nothing.
+use mathlib.Core.Path.{_≡_, refl, sym, ap}
 use mathlib.Core.Bool.{Bool, true, false}
 use mathlib.Core.List.{List}
 use Prim.Native.Nat.{ℕ, _+_, _<_}
@@ -15,7 +15,7 @@ use Rattle.doubles.proofs.Laws.Steps.{upto-over}
 use Rattle.doubles.proofs.Laws.Ends.{first-fails, second-fails, neither-holds, all-fail}
 use Rattle.runs.specs.Epoch.{Task, Point, gradientOf, known, allKnown, knownIn, movedFinite, fine, visit, visits}
 use Rattle.runs.specs.Run.{Inner, accelerated, checked, settled, epoch, epochs, State, iteration, turn, start, run}
-use Rattle.runs.specs.Call.{usable, usableAt, solved}
+use Rattle.runs.specs.Call.{givenUp, concluded, usable, usableAt, solved}
 use Rattle.runs.specs.declared.Settings.{Settings}
 use Rattle.endings.specs.NotFinite as NotFinite
 use Rattle.endings.specs.NotFinite.{setAt, worstAt, difference}
@@ -24,7 +24,7 @@ use Rattle.endings.proofs.Laws.Changed.{changed-broken}
 
 module _ (T : Task) (y : List Float) (S : Settings) where
   abbrev Breaks : Type 0
-  Breaks = solved T y S ≡ bad
+  Breaks = solved T y S ≡ givenUp 7 0
 
   -- ---- from the inside out
   column-breaks : (j : ℕ) → j < T .p → usableAt T j ≡ false → Breaks
@@ -35,8 +35,8 @@ module _ (T : Task) (y : List Float) (S : Settings) where
   unfolding solved
   run-breaks e = go (all (usableAt T) (T .p))
     where
-      go : (b : Bool) → pick b (run T y S) bad ≡ bad
-      go true = e
+      go : (b : Bool) → pick b (concluded (run T y S)) (givenUp 7 0) ≡ givenUp 7 0
+      go true = ap concluded e
       go false = refl
 
   turn-breaks : {t : ℕ} {s : State} → Turns T y S t s → turn T y S t s ≡ bad → Breaks

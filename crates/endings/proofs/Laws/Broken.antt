@@ -1,9 +1,9 @@
--- A run that breaks off came to a number that is not finite: its last turn, that turn's last epoch, and that epoch's last visit or its check are taken
+-- A solve that is given up came to a number that is not finite: its last turn, that turn's last epoch, and that epoch's last visit or its check are taken
 -- apart till a number is left. Assumes nothing.
 use mathlib.Core.Path.{_≡_, refl, sym, _∙_}
-use mathlib.Core.Bool.{Bool, true, false}
+use mathlib.Core.Bool.{Bool, true, false, true≢false}
 use mathlib.Core.List.{List}
-use mathlib.Core.Logic.{⊎-elim}
+use mathlib.Core.Logic.{_⊎_, inl, inr, ⊎-elim}
 use Prim.Native.Nat.{ℕ, _+_, _<_}
 use native.Mathlib.Omega.{arith}
 use borrow.Author.Tests.{eqb-false}
@@ -16,8 +16,9 @@ use Rattle.doubles.proofs.Laws.Steps.{all-each}
 use Rattle.doubles.proofs.Laws.Ends.{and-fails, or-fails, one-fails, going≢bad, stopped≢bad, going≢stopped, last-turn}
 use Rattle.runs.specs.Epoch.{Task, Point, constant, known, allKnown, knownIn, worstIn, movedFinite, fine, visited, visit, visits}
 use Rattle.runs.specs.Run.{Inner, accelerated, enough, checked, checks, settled, epoch, epochs, State, iteration, ends, turn, start, run}
-use Rattle.runs.specs.Call.{usable, usableAt, solved}
+use Rattle.runs.specs.Call.{givenUp, usable, usableAt, solved}
 use Rattle.runs.specs.declared.Settings.{Settings}
+use Rattle.runs.proofs.Laws.Ends.{solved-given-up}
 use Rattle.endings.specs.NotFinite as NotFinite
 use Rattle.endings.specs.NotFinite.{setAt, worstAt, difference}
 use Rattle.endings.specs.NotFinite.{NotFinite, Turns, Iterates, Epochs, Visited, Checked, at-check, at-visit, of-turn, of-epoch}
@@ -161,10 +162,10 @@ module _ (T : Task) (y : List Float) (S : Settings) where
       let l = last-turn (turn T y S) (start T S) (S .iterations + 1) (rw r) in
       turn-bad (record { columns = u; inside = omega (arith, l .inside); reached = l .reached }) (l .last ∙ r)
 
-  pub solved-broken : solved T y S ≡ bad → NotFinite T y S
-  unfolding solved
-  solved-broken = go (all (usableAt T) (T .p)) refl
+  pub solved-broken : (number place : ℕ) → solved T y S ≡ givenUp number place → NotFinite T y S
+  solved-broken number place r = go (all (usableAt T) (T .p)) refl (solved-given-up T y S number place r)
     where
-      go : (b : Bool) → all (usableAt T) (T .p) ≡ b → pick b (run T y S) bad ≡ bad → NotFinite T y S
-      go true e r = run-bad (all-each (usableAt T) (T .p) e) r
-      go false e r = let l = one-fails (usableAt T) (T .p) e in usable-fails (l .place) (l .inside) (l .fails)
+      go : (b : Bool) → all (usableAt T) (T .p) ≡ b → (all (usableAt T) (T .p) ≡ false) ⊎ (run T y S ≡ bad) → NotFinite T y S
+      go true e (inl h) = absurd (true≢false (sym e ∙ h))
+      go true e (inr h) = run-bad (all-each (usableAt T) (T .p) e) h
+      go false e h = let l = one-fails (usableAt T) (T .p) e in usable-fails (l .place) (l .inside) (l .fails)

@@ -12,11 +12,17 @@ use Rattle.doubles.specs.Num.{pick, _or_}
 use Rattle.doubles.specs.Steps.{steps, all, Stage, going, stopped, bad, next, upto, over}
 use Rattle.runs.specs.Epoch.{Task, allKnown, worst}
 use Rattle.runs.specs.Run.{State, ends, turn, start, run}
-use Rattle.runs.specs.Call.{givenUp, done, concluded, usableAt, solved}
+use Rattle.runs.specs.Call.{End, untouched, givenUp, done, concluded, usableAt, solved}
 use Rattle.runs.specs.declared.Settings.{Settings}
 
 pub givenUp≢done : {number place : ℕ} {s : State} → givenUp number place ≡ done s → ⊥
 givenUp≢done e = let n : _≡_ {A = ℕ} 0 1 = cc in omega arith
+
+-- the run was begun: what it leaves are not the buffers as they were lent
+abbrev pub begun : End → Bool
+begun (untouched number place) = false
+begun (givenUp number place) = true
+begun (done s) = true
 
 last : (f : ℕ → State → Stage State) (n : ℕ) (a : State) → ((s : State) → over (f n s) ≡ true) → over (upto f (n + 1) a) ≡ true
 unfolding steps
@@ -44,6 +50,16 @@ module _ (T : Task) (y : List Float) (S : Settings) where
   run-over = last (turn T y S) (S .iterations) (start T S) turn-last
 
   -- ---- what the ending of a solve says of its run
+  pub solved-begun : begun (solved T y S) ≡ true
+  unfolding solved
+  solved-begun = go (all (usableAt T) (T .p)) (run T y S)
+    where
+      go : (b : Bool) (r : Stage State) → begun (pick b (concluded r) (givenUp 7 0)) ≡ true
+      go true (stopped s) = refl
+      go true (going s) = refl
+      go true bad = refl
+      go false r = refl
+
   pub solved-done : (e : State) → solved T y S ≡ done e → run T y S ≡ stopped e
   unfolding solved
   solved-done e = go (all (usableAt T) (T .p)) (run T y S)

@@ -11,13 +11,14 @@ use Rattle.doubles.proofs.Laws.Compare.{finite-turned}
 use Rattle.doubles.proofs.Laws.Signs.{signs-at, signs-length}
 use Rattle.doubles.proofs.Laws.Steps.{steps-same}
 use Rattle.designs.specs.Search.{orElse, mark}
-use Rattle.designs.specs.Checks.{lengths, sizes, notFinite, numbers, cscFault, contents, admitted}
+use Rattle.designs.specs.Given.{Given}
+use Rattle.designs.specs.Checks.{lengths, sizes, notFinite, numbers, cscFault, contents, sizedFault}
 use Rattle.designs.specs.declared.Found.the-variants.{Nowhere}
 use Rattle.designs.specs.declared.Layout.{Layout}
 use Rattle.designs.specs.declared.Layout.the-variants.{Dense, Csc}
-use Rattle.designs.specs.declared.Shape.{Shape}
 use Rattle.runs.specs.Call.{Lent, fitFault}
 use Rattle.runs.specs.declared.Settings.{Settings}
+use Rattle.signs.specs.Turning.{withNumbers}
 
 place-same : {s : ℕ → Bool} {xs xs' : List Float} → Signs s xs xs' → (from : ℕ) → notFinite xs from ≡ notFinite xs' from
 unfolding notFinite
@@ -26,26 +27,28 @@ place-same {s} {xs} {xs'} p from =
     (steps-same (λ k r. orElse r (mark (not (finite (at xs k))) (from + k))) (λ k r. orElse r (mark (not (finite (at xs' k))) (from + k))) (length xs) Nowhere
     (λ k l r. ap (λ (x : Bool). orElse r (mark (not x) (from + k))) (finite-turned (signs-at p k))))
 
-module _ {σ τ : ℕ → Bool} {values values' y y' : List Float} (v : Signs σ values values') (u : Signs τ y y') (starts rows : List ℕ) where
-  lengths-same : (l : Layout) (n p : ℕ) → lengths l n p starts rows values ≡ lengths l n p starts rows values'
+module _ (g : Given) {σ τ : ℕ → Bool} {values' y' : List Float} (v : Signs σ (g .values) values') (u : Signs τ (g .targets) y') where
+  abbrev g' : Given
+  g' = withNumbers g values' y'
+
+  lengths-same : (l : Layout) (n p : ℕ) → lengths l n p (g .starts) (g .rows) (g .values) ≡ lengths l n p (g .starts) (g .rows) values'
   unfolding lengths
   lengths-same Dense n p = rw (signs-length v)
   lengths-same Csc n p = rw (signs-length v)
 
-  numbers-same : (n : ℕ) → numbers n values y ≡ numbers n values' y'
+  sizes-same : sizes (g .shape) (g .starts) (g .rows) (g .values) ≡ sizes (g .shape) (g .starts) (g .rows) values'
+  unfolding sizes
+  sizes-same = rw (lengths-same (g .shape .layout) (g .shape .n) (g .shape .p), signs-length v)
+
+  numbers-same : (n : ℕ) → numbers n (g .values) (g .targets) ≡ numbers n values' y'
   unfolding numbers
   numbers-same n = rw (place-same v n, place-same u 0)
 
-  contents-same : (l : Layout) (n p : ℕ) → contents l n p starts rows values y ≡ contents l n p starts rows values' y'
+  contents-same : (l : Layout) → contents l g ≡ contents l g'
   unfolding contents cscFault
-  contents-same Dense n p = numbers-same n
-  contents-same Csc n p = rw (signs-length v, numbers-same n)
+  contents-same Dense = numbers-same (g .shape .n)
+  contents-same Csc = rw (signs-length v, numbers-same (g .shape .n))
 
-  module _ (s : Shape) where
-    sizes-same : sizes s starts rows values ≡ sizes s starts rows values'
-    unfolding sizes
-    sizes-same = rw (lengths-same (s .layout) (s .n) (s .p), signs-length v)
-
-    pub fault-same : (S : Settings) (b : Lent) → fitFault s starts rows values y S b ≡ fitFault s starts rows values' y' S b
-    unfolding fitFault admitted
-    fault-same S b = rw (sizes-same, signs-length u, contents-same (s .layout) (s .n) (s .p))
+  pub fault-same : (S : Settings) (b : Lent) → fitFault g S b ≡ fitFault g' S b
+  unfolding fitFault sizedFault
+  fault-same S b = rw (sizes-same, signs-length u, contents-same (g .shape .layout))

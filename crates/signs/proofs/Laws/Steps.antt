@@ -26,9 +26,9 @@ use Rattle.runs.specs.Run.{State}
 use Rattle.runs.specs.Call.{usable, usableAt, solved, reportOf}
 use Rattle.runs.specs.declared.Report.{Report}
 use Rattle.runs.specs.declared.Settings.{Settings}
-use Rattle.two_runs.specs.Stages.{Both}
+use Rattle.two_runs.specs.Stages.{Ends}
 use Rattle.two_runs.specs.Alike.{Pair, first, second, Weights, Points, Chosen, Rows, Respects, Alike}
-use Rattle.two_runs.proofs.Laws.Loops.{steps-related, stages-map}
+use Rattle.two_runs.proofs.Laws.Loops.{steps-related, ends-map}
 use Rattle.two_runs.proofs.TwoRuns.{two-solves, report-same}
 use Rattle.signs.specs.Turning.{SameRun}
 use Rattle.signs.proofs.Laws.Exact.{unlike-none, sum-exact, signs-each, finite-same, signs-zeros}
@@ -192,6 +192,5 @@ module _ (c : ℕ → Bool) (t : Bool) (X : Design) (other : ℕ → ℕ → Flo
       (run, r)
 
   pub solved-turned : Odd (S .penalty) → 1 ≤ X .n → X .n ≤ 65536 → (S .extrapolate ≡ true → (j : ℕ) → c j ≡ false)
-      → Both (Same c t S) (solved (first turning) y S) (solved (second turning) y' S)
-  solved-turned odd some few flat =
-      stages-map same-run same-run (two-solves turning usable-same (respects odd some few flat))
+      → Ends (Same c t S) (solved (first turning) y S) (solved (second turning) y' S)
+  solved-turned odd some few flat = ends-map same-run (two-solves turning usable-same (respects odd some few flat))

@@ -1,4 +1,4 @@
--- Choices, tests and loops of two runs at once: what is related at the start, and what each step keeps related, is related at the end.
+-- Choices, tests, loops and ends of two runs at once: what is related at the start, and what each step keeps related, is related at the end.
 -- Assumes nothing.
 use mathlib.Core.Path.{_≡_, refl, ap}
 use mathlib.Core.Bool.{Bool, true, false}
@@ -8,7 +8,10 @@ use lib.Ieee.{Float}
 use Rattle.doubles.specs.Num.{pick, _and_, larger}
 use Rattle.doubles.specs.Steps.{steps, all, largest, Stage, going, next, upto, andThen}
 use Rattle.doubles.proofs.Laws.Steps.{steps-same}
-use Rattle.two_runs.specs.Stages.{Stages, both-going, both-stopped, both-bad, Both}
+use Rattle.doubles.specs.Answer.{refused, answered, Fault, none}
+use Rattle.runs.specs.Run.{State}
+use Rattle.runs.specs.Call.{End, concluded, behind}
+use Rattle.two_runs.specs.Stages.{Stages, both-going, both-stopped, both-bad, Both, Ends, both-untouched, both-given-up, both-done}
 
 -- ---- choices by one test; each branch may know that it was taken
 pub related : {A : Type 0} (R : A → A → Type 0) {b b' : Bool} {x x' y y' : A} → b ≡ b' → (b ≡ true → R x x') → (b ≡ false → R y y')
@@ -59,3 +62,23 @@ module _ {A : Type 0} where
   upto-related I E f g n a b r h =
       steps-related (λ (k : ℕ). Stages (I k) E) (λ k. next (f k)) (λ k. next (g k)) n (going a) (going b) (both-going r)
       (λ k l x y. next-related (f k) (g k) (h k l))
+
+-- ---- ends
+module _ {R : State → State → Type 0} where
+  pub ends-map : {R' : State → State → Type 0} → ((s s' : State) → R s s' → R' s s') → {e e' : End} → Ends R e e' → Ends R' e e'
+  ends-map h both-untouched = both-untouched
+  ends-map h both-given-up = both-given-up
+  ends-map h (both-done r) = both-done (h _ _ r)
+
+  pub concluded-related : {r r' : Stage State} → Both R r r' → Ends R (concluded r) (concluded r')
+  concluded-related (both-going r) = both-given-up
+  concluded-related (both-stopped r) = both-done r
+  concluded-related both-bad = both-given-up
+
+  -- behind the same tests; what follows need be related only where they find nothing
+  pub behind-related : {f f' : Fault} {e e' : End} → f ≡ f' → (f ≡ none → Ends R e e') → Ends R (behind f e) (behind f' e')
+  behind-related {f} {f'} {e} {e'} q h = rw (← q) (go f h)
+    where
+      go : (f : Fault) → (f ≡ none → Ends R e e') → Ends R (behind f e) (behind f e')
+      go (answered u) h = h refl
+      go (refused number place) h = both-untouched

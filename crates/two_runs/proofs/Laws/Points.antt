@@ -54,7 +54,7 @@ module _ (w w' : List Float) (n : ℕ) (zero : (j : ℕ) → j < n → isZero w 
   unfolding others
   others-same v = steps-same _ _ n [] (λ j l b. ap (λ (x : Bool). pick x (insert v j b) b) (zero j l))
 
-  pub set-same : length w ≡ n → length w' ≡ n → (start : ℕ) (v : List Float) → workingSet start v w ≡ workingSet start v w'
+  set-same : length w ≡ n → length w' ≡ n → (start : ℕ) (v : List Float) → workingSet start v w ≡ workingSet start v w'
   unfolding workingSet size
   set-same e e' start v = rw (e, e', support-same, others-same v)
 

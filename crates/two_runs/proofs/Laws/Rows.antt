@@ -12,15 +12,13 @@ use lib.Ieee.{Float, nan}
 use borrow.Author.Count.{below-more}
 use borrow.Author.Tests.{leb-true, ltb-true, eqb-true}
 use Rattle.doubles.specs.Num.{at}
-use Rattle.doubles.specs.Answer.{Outcome, refused, answered}
 use Rattle.doubles.proofs.Laws.Buffer.{length-put, put-before, put-in}
 use Rattle.doubles.proofs.Laws.Choice.{and-both}
 use Rattle.doubles.proofs.Laws.Steps.{tab-same, length-tab, getD-tab}
-use Rattle.systems.specs.Answer.{Ended, singular, solved}
-use Rattle.systems.specs.Elimination.{solveCall}
+use Rattle.systems.specs.Elimination.{Rows as System, regular, readOff, eliminated}
 use Rattle.runs.specs.Epoch.{Point}
 use Rattle.runs.specs.Extrapolation.{gathered, keptNow, systemRow, system, coefficients, combined, candidate}
-use Rattle.runs.specs.Extrapolation.{Tried, keeps, chosen, pointOf, fromSolution, extrapolate, due, tried}
+use Rattle.runs.specs.Extrapolation.{Tried, keeps, chosen, pointOf, candidateOf, fromSystem, extrapolate, due, tried}
 use Rattle.two_runs.specs.Alike.{Pair, first, second, Weights, Points, Chosen, Rows, Respects}
 use Rattle.two_runs.proofs.Laws.Loops.{related, steps-related}
 use Rattle.two_runs.proofs.Laws.Points.{weights-set, weights-zero}
@@ -125,16 +123,14 @@ module _ (P : Pair) (H : Respects P) (on : P .settings .extrapolate ≡ true) {w
           (λ b. record { points = record { weights = unfold pointOf in v; other = H .taken on C v u b }; taken = refl })
           (λ b. keeps-related P u)
 
-      from-solution : (o : Outcome Ended) (z : List Float)
-          → Tries P (fromSolution (first P) (P .y) K ws kept q o z) (fromSolution (second P) (P .y') K ws kept' q' o z)
-      from-solution (answered solved) z = chosen-related (candidate-related (coefficients K z))
-      from-solution (answered singular) z = keeps-related P u
-      from-solution (refused number place) z = keeps-related P u
+      from-system : (m : System) → Tries P (fromSystem (first P) (P .y) K ws kept q m) (fromSystem (second P) (P .y') K ws kept' q' m)
+      unfolding fromSystem candidateOf
+      from-system m =
+          related (Tries P) {b = regular K m} refl (λ h. chosen-related (candidate-related (coefficients K (readOff K m)))) (λ h. keeps-related P u)
 
       extrapolate-related : Tries P (extrapolate (first P) (P .y) K ws kept q) (extrapolate (second P) (P .y') K ws kept' q')
       unfolding extrapolate
-      extrapolate-related =
-          rw (← system-same) (from-solution (solveCall K (system K (P .p) kept) .ending) (solveCall K (system K (P .p) kept) .z))
+      extrapolate-related = rw (← system-same) (from-system (eliminated K (system K (P .p) kept)))
 
   pub tried-related : (e : ℕ) {kept kept' : List Float} → Rows P ws (suc (e % suc K)) kept kept' → {q q' : Point} → Points P q q'
       → Tries P (tried (first P) (P .y) K e ws kept q) (tried (second P) (P .y') K e ws kept' q')
