@@ -40,11 +40,11 @@ use Rattle.solvers.specs.Inner.Left.{Leaves, reportFrom}
 module _ (S : Settings) (s : Shape) (d : End) (r : RunEnd) (w fit kept : List Float) (e : endOf r w fit kept (setsAt d) ≡ d) where
   pub run-done : (c : Totals) → r ≡ RunEnd.Done c → (x : Report) → x ≡ reportFrom c (S .tolerance) → (answered x ≡ answer S d) × Leaves s d w fit
   unfolding reportOf
-  run-done c h x ex = rw (← e, h, ex) (refl, refl, refl)
+  run-done c h x ex = rw (← e, h, ex) (refl, (refl, refl))
 
   pub run-given-up : (q : Refusal) → r ≡ RunEnd.GivenUp q → (w' fit' : List Float) → w' ≡ zeros (length w) → fit' ≡ zeros (length fit)
       → length w ≡ s .p → length fit ≡ s .n → (refused (q .number) (q .place) ≡ answer S d) × Leaves s d w' fit'
-  run-given-up q h w' fit' ew ef lw lf = rw (← e, h, ew, ef, lw, lf) (refl, refl, refl)
+  run-given-up q h w' fit' ew ef lw lf = rw (← e, h, ew, ef, lw, lf) (refl, (refl, refl))
 
 -- ---- the buffers
 -- what is put at the front of each, together

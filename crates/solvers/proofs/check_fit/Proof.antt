@@ -1,57 +1,73 @@
+-- `check_fit`: the sizes, the settings, then the rest behind them. Assumes nothing.
+use mathlib.Core.Path.{sym, _∙_}
+use Rattle.doubles.proofs.Laws.Choice.{and-both}
+use Rattle.doubles.proofs.Laws.Verdict.{stop, pass}
+use Rattle.designs.proofs.Laws.Passed.{sized}
+use Rattle.runs.specs.Call.{fitFault}
 use borrow.Author.Needs.{needs}
 use Rattle.solvers.proofs.check_fit.Statement.{statement}
 use Rattle.solvers.proofs.check_fit.Tie as tie
-use Rattle.solvers.proofs.check_fit.Reads as reads
-use Rattle.solvers.proofs.check_fit.Lts as lts
-use Rattle.designs.proofs.inner.check_sized.Reads as check-sized-reads
-use Rattle.designs.proofs.inner.sizes_agree.Reads as sizes-agree-reads
-use Rattle.doubles.proofs.inner.both.Reads as both-reads
-use Rattle.doubles.proofs.inner.refused.Reads as refused-reads
-use Rattle.solvers.proofs.check_settings.Reads as check-settings-reads
-use Rattle.solvers.proofs.has_room.Reads as has-room-reads
 
--- src/lib.rt:119:13
 sizes-agree-requires : tie.Need-sizes-agree-requires
 sizes-agree-requires c κs = search needs
 
--- src/lib.rt:119:8
 both-requires : tie.Need-both-requires
 both-requires c κs = search needs
 
--- src/lib.rt:120:9
 refused-requires : tie.Need-refused-requires
 refused-requires c κs = search needs
 
--- src/lib.rt:120:9
 returns : tie.Need-returns
-returns c = ?
+unfolding fitFault
+returns c =
+    let at-both = c .before .before in
+    c .refused .ensures ∙ rw (← at-both .before .sizes-agree .ensures, ← at-both .both .ensures, c .before .if1 .left)
 
--- src/lib.rt:122:34
 check-settings-requires : tie.Need-check-settings-requires
 check-settings-requires c κs = search needs
 
--- src/lib.rt:122:29
 enum-known-r : tie.Need-enum-known-r
 enum-known-r c = search needs
 
--- src/lib.rt:123:9
 returns-2 : tie.Need-returns-2
-returns-2 c = ?
+unfolding fitFault
+returns-2 c =
+    let at-settings = c .before .before .before in
+    let at-both = at-settings .before .before in
+    rw (← at-both .before .sizes-agree .ensures, ← at-both .both .ensures, at-settings .before .if1 .taken)
+    (rw (← stop _ (at-settings .check-settings .ensures) _ (c .before .r .given .1)))
 
 enum-told : tie.Need-enum-told
 enum-told c = search needs
 
--- src/lib.rt:125:9
 has-room-requires : tie.Need-has-room-requires
-has-room-requires c κs = ?
+has-room-requires c κs =
+    let at-settings = c .before .before in
+    let at-both = at-settings .before .before in
+    let agree = and-both _ _ (sym (at-both .both .ensures) ∙ at-settings .before .if1 .taken) .0 in
+    let z = sized _ _ _ _ (sym (at-both .before .sizes-agree .ensures) ∙ agree) in
+    (z .few, z .narrow, sym (pass _ (at-settings .check-settings .ensures) (c .enum-told .given .1)))
 
--- src/lib.rt:126:5
 check-sized-requires : tie.Need-check-sized-requires
-check-sized-requires c κs = ?
+check-sized-requires c κs =
+    let at-test = c .before .before .before .before in
+    let at-both = at-test .before in
+    sym (at-both .before .sizes-agree .ensures) ∙ and-both _ _ (sym (at-both .both .ensures) ∙ at-test .if1 .taken) .0
 
--- src/lib.rt:103:1
 returns-3 : tie.Need-returns-3
-returns-3 c = ?
+unfolding fitFault
+returns-3 c =
+    let at-told = c .before .before in
+    let at-settings = at-told .before .before in
+    let at-both = at-settings .before .before in
+    rw (
+      ← at-both .before .sizes-agree .ensures,
+      ← at-both .both .ensures,
+      at-settings .before .if1 .taken,
+      ← pass _ (at-settings .check-settings .ensures) (at-told .enum-told .given .1),
+      ← c .before .has-room .ensures,
+    )
+    (c .check-sized .ensures)
 
 pub check-fit-spec : {M : Type 1} → statement M
 check-fit-spec =

@@ -1,66 +1,61 @@
+-- `coordinate_descent`: the tests, and where they find nothing, the run. Assumes nothing.
+use mathlib.Core.Path.{sym}
+use Rattle.doubles.proofs.Laws.Verdict.{pass}
+use Rattle.solvers.proofs.Laws.Calls.{left-refused, left-run}
 use borrow.Author.Needs.{needs}
 use Rattle.solvers.proofs.coordinate_descent.Statement.{statement}
 use Rattle.solvers.proofs.coordinate_descent.Tie as tie
-use Rattle.solvers.proofs.coordinate_descent.Reads as reads
-use Rattle.solvers.proofs.coordinate_descent.Lts as lts
-use Rattle.solvers.proofs.check_fit.Reads as check-fit-reads
-use Rattle.solvers.proofs.fit_tested.Reads as fit-tested-reads
 
--- src/lib.rt:258:11
 check-fit-requires : tie.Need-check-fit-requires
 check-fit-requires c κs = search needs
 
--- src/lib.rt:270:26
 enum-known-r : tie.Need-enum-known-r
 enum-known-r c = search needs
 
--- src/lib.rt:278:13
 enum-told : tie.Need-enum-told
 enum-told c = search needs
 
--- src/lib.rt:271:26
 fit-tested-requires : tie.Need-fit-tested-requires
-fit-tested-requires c κs = ?
+fit-tested-requires c κs =
+    let at-told = c .before .before .before .before in
+    let at-check = at-told .before .before in
+    sym (pass _ (at-check .check-fit .ensures) (at-told .enum-told .given .1))
 
--- src/lib.rt:241:1
 same-length : tie.Need-same-length
 same-length c = search needs
 
--- src/lib.rt:241:1
 same-length-2 : tie.Need-same-length-2
 same-length-2 c = search needs
 
--- src/lib.rt:241:1
 same-length-3 : tie.Need-same-length-3
 same-length-3 c = search needs
 
--- src/lib.rt:241:1
 same-length-4 : tie.Need-same-length-4
 same-length-4 c = search needs
 
--- src/lib.rt:241:1
 returns : tie.Need-returns
-returns c = ?
+returns c =
+    let at-check = c .before .before .before in
+    left-refused _ _ _ _ (at-check .check-fit .ensures) _ (c .before .r .given .1)
 
--- src/lib.rt:241:1
 same-length-5 : tie.Need-same-length-5
 same-length-5 c = search needs
 
--- src/lib.rt:241:1
 same-length-6 : tie.Need-same-length-6
 same-length-6 c = search needs
 
--- src/lib.rt:241:1
 same-length-7 : tie.Need-same-length-7
 same-length-7 c = search needs
 
--- src/lib.rt:241:1
 same-length-8 : tie.Need-same-length-8
 same-length-8 c = search needs
 
--- src/lib.rt:241:1
 returns-2 : tie.Need-returns-2
-returns-2 c = ?
+returns-2 c =
+    let at-run = c .before .before .before .before .before .before .before .before in
+    let at-told = at-run .before .before .before .before .before in
+    let at-check = at-told .before .before in
+    left-run _ _ _ _ (at-check .check-fit .ensures) (at-told .enum-told .given .1) _ _ (at-run .fit-tested .ensures)
 
 pub coordinate-descent-spec : {M : Type 1} → statement M
 coordinate-descent-spec =

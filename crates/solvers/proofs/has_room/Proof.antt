@@ -1,30 +1,24 @@
+-- `has_room`: the rooms one after the other, from the last. Assumes nothing.
+use Rattle.solvers.proofs.Laws.Calls.{rooms-tested}
 use borrow.Author.Needs.{needs}
 use Rattle.solvers.proofs.has_room.Statement.{statement}
 use Rattle.solvers.proofs.has_room.Tie as tie
-use Rattle.solvers.proofs.has_room.Reads as reads
-use Rattle.solvers.proofs.has_room.Lts as lts
-use Rattle.doubles.proofs.inner.both.Reads as both-reads
-use Rattle.solvers.proofs.scratch_room.Reads as scratch-room-reads
 
--- src/lib.rt:97:9
 scratch-room-requires : tie.Need-scratch-room-requires
 scratch-room-requires c κs = search needs
 
--- src/lib.rt:98:9
 both-requires : tie.Need-both-requires
 both-requires c κs = search needs
 
--- src/lib.rt:99:30
 both-requires-2 : tie.Need-both-requires-2
 both-requires-2 c κs = search needs
 
--- src/lib.rt:99:5
 both-requires-3 : tie.Need-both-requires-3
 both-requires-3 c κs = search needs
 
--- src/lib.rt:86:1
 returns : tie.Need-returns
-returns c = ?
+returns c =
+    rooms-tested _ _ _ _ _ _ _ (c .before .before .before .before .before .before .scratch-room .ensures) (c .before .before .before .before .both .ensures) (c .before .both2 .ensures) (c .both3 .ensures)
 
 pub has-room-spec : {M : Type 1} → statement M
 has-room-spec =
