@@ -66,13 +66,6 @@ neg-neg (inf false) = refl
 neg-neg (fin true m e) = refl
 neg-neg (fin false m e) = refl
 
-pub plain-plain : (x : Float) → plain (plain x) ≡ plain x
-unfolding plain
-plain-plain nan = refl
-plain-plain (inf s) = refl
-plain-plain (fin s zero e) = refl
-plain-plain (fin s (suc m) e) = refl
-
 pub neg-plain : (x : Float) → plain (neg x) ≡ plain (neg (plain x))
 unfolding plain neg
 neg-plain nan = refl
@@ -175,10 +168,6 @@ unlike-r true true = refl
 unlike-r true false = refl
 unlike-r false true = refl
 unlike-r false false = refl
-
-neg-cond : (b : Bool) (x y : Float) → neg (cond b x y) ≡ cond b (neg x) (neg y)
-neg-cond true x y = refl
-neg-cond false x y = refl
 
 inf-not : (b s t : Bool) → s ≡ not t → cond b nan (inf s) ≡ neg (cond b nan (inf t))
 unfolding neg
