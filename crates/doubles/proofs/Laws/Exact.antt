@@ -1,7 +1,9 @@
 -- A value that fits is rounded to itself. Assumes nothing.
 use mathlib.Core.Path.{_≡_, refl, sym, ap, _∙_}
 use Prim.Native.Nat.{ℕ, zero, suc, _+_, _-_, _*_, _%_, _^_, _≤_, _<_, suc-le-suc}
-use native.Mathlib.Nat.{suc-inj, lt-of-not-le, lt-irrefl, le-of-eq, lt-of-lt-of-le, lt-of-le-of-lt, mul-one, mul-comm, mul-assoc, mul-left-comm, mul-right-comm, mul-pos, zero-lt-suc, pow-suc, pow-succ', eq-of-mul-eq-mul-right, mul-lt-mul-of-pos-right, lt-of-mul-lt-mul-right}
+use native.Mathlib.Nat.{suc-inj, zero-lt-suc, lt-of-not-le, lt-irrefl, le-of-eq, lt-of-lt-of-le, lt-of-le-of-lt, pow-suc, pow-succ'}
+use native.Mathlib.Nat.{mul-one, mul-comm, mul-assoc, mul-left-comm, mul-right-comm, mul-pos}
+use native.Mathlib.Nat.{eq-of-mul-eq-mul-right, mul-lt-mul-of-pos-right, lt-of-mul-lt-mul-right}
 use native.Mathlib.Omega.{arith}
 use mathlib.Core.Bool.{Bool, _&&_}
 use lib.IntN.{ℤ, pos, negsuc}
@@ -82,16 +84,21 @@ in-units f m (negsuc k) h =
 
 below-top : (f : Format) (m : ℕ) (e : ℤ) → Fits f m e → suc m * 2 ^ shift f e < 2 ^ (low f + suc (emax f))
 below-top f m e F =
-    let l = 2 ^ low f in
-    lt-of-mul-lt-mul-right (down e)
-    (lt-of-le-of-lt (le-of-eq (sym (in-units f (suc m) e (F .fine))))
-    (lt-of-lt-of-le (mul-lt-mul-of-pos-right (F .small) (pow-pos (low f)))
-    (le-of-eq (mul-right-comm (2 ^ suc (emax f)) (down e) l ∙ ap (λ (x : ℕ). x * down e) (mul-comm (2 ^ suc (emax f)) l ∙ sym (pow-add 2 (low f) (suc (emax f))))))))
+    let l : ℕ = 2 ^ low f in
+    let top : ℕ = 2 ^ suc (emax f) in
+    let here = le-of-eq (sym (in-units f (suc m) e (F .fine))) in
+    let below = mul-lt-mul-of-pos-right (F .small) (pow-pos (low f)) in
+    let whole = mul-comm top l ∙ sym (pow-add 2 (low f) (suc (emax f))) in
+    let there = le-of-eq (mul-right-comm top (down e) l ∙ ap (λ (x : ℕ). x * down e) whole) in
+    lt-of-mul-lt-mul-right (down e) (lt-of-le-of-lt here (lt-of-lt-of-le below there))
 
-same-value : (f : Format) (s : Bool) (m : ℕ) (e : ℤ) → Fits f m e → (z : Float) → T (fits f z) → HasValue z s (suc m * up e) (down e) → z ≡ fin s (suc m) e
+same-value : (f : Format) (s : Bool) (m : ℕ) (e : ℤ) → Fits f m e
+    → (z : Float) → T (fits f z) → HasValue z s (suc m * up e) (down e) → z ≡ fin s (suc m) e
 same-value f s m e F nan h v = absurd v
 same-value f s m e F (inf t) h v = absurd v
-same-value f s m e F (fin t zero g) h v = absurd (lt-irrefl 0 (lt-of-lt-of-le (mul-pos (mul-pos (zero-lt-suc m) (up-pos e)) (down-pos g)) (le-of-eq (sym (v .1) ∙ zero₂ (up g) (down e)))))
+same-value f s m e F (fin t zero g) h v =
+    let more = mul-pos (mul-pos (zero-lt-suc m) (up-pos e)) (down-pos g) in
+    absurd (lt-irrefl 0 (lt-of-lt-of-le more (le-of-eq (sym (v .1) ∙ zero₂ (up g) (down e)))))
 same-value f s m e F (fin t (suc n) g) h v =
     let r = unique (suc n) (suc m) g e (says f t n g h .odd) (F .odd) (v .1) in
     λ i. fin (v .0 i) (r .0 i) (r .1 i)

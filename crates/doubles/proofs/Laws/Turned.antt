@@ -6,7 +6,8 @@ use lib.Dec.{T}
 use lib.Ieee.{Float, nan, inf, fin, Format, unlike, neg, add, sub, mul, div, lt, ofBits}
 use Rattle.doubles.specs.Num.{_⊘_, #0, #1}
 use Rattle.doubles.specs.Sign.{plain, flip, Turned, nonzero}
-use Rattle.doubles.proofs.Laws.Turn.{neg-neg, neg-plain, add-neg, add-plain, mul-neg-l, mul-neg-r, mul-plain, div-neg-l, div-neg-r, div-plain}
+use Rattle.doubles.proofs.Laws.Turn.{neg-neg, neg-plain, add-neg, add-plain}
+use Rattle.doubles.proofs.Laws.Turn.{mul-neg-l, mul-neg-r, mul-plain, div-neg-l, div-neg-r, div-plain}
 
 -- ---- `flip` goes through each operation
 flip-neg : (s : Bool) (x : Float) → flip s (neg x) ≡ neg (flip s x)
@@ -67,7 +68,8 @@ pub turned-mul : (f : Format) {s t : Bool} {x x' y y' : Float} → Turned s x x'
 turned-mul f {s} {t} {x} {x'} {y} {y'} p q = record { is = cc (flip-mul f s t x y, mul-plain f (flip s x) (flip t y), mul-plain f x' y') }
 
 -- by a divisor that is turned exactly, a zero's sign included
-pub turned-div : (f : Format) {s : Bool} (t : Bool) {x x' : Float} (y : Float) {y' : Float} → Turned s x x' → flip t y ≡ y' → Turned (unlike s t) (div f x y) (div f x' y')
+pub turned-div : (f : Format) {s : Bool} (t : Bool) {x x' : Float} (y : Float) {y' : Float} → Turned s x x' → flip t y ≡ y'
+    → Turned (unlike s t) (div f x y) (div f x' y')
 turned-div f {s} t {x} {x'} y {y'} p q = record { is = cc (flip-div f s t x y, div-plain f (flip s x) (flip t y), div-plain f x' y') }
 
 -- by the same divisor
