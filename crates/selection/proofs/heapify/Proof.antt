@@ -39,9 +39,9 @@ loop-less c = search needs
 loop-again : tie.Need-loop-again Inv-loop μ-loop
 loop-again c =
     let sunk = c .before .before .sink in
-    let at-test = c .before .before .before .before .before in
-    heaped-turn (at-test .before .loop .inv) (at-test .loop-test .taken) (sunk .last .1 .0) (sunk .kept .1 .0) (sunk .ensures .0)
-    (sunk .ensures .1)
+    let test = c .before .before .before .before .before in
+    let turn = heaped-turn (test .before .loop .inv) (test .loop-test .taken) in
+    turn (sunk .last .1 .0) (sunk .kept .1 .0) (sunk .ensures .0) (sunk .ensures .1)
 
 same-length : tie.Need-same-length Inv-loop μ-loop
 same-length c = search needs
