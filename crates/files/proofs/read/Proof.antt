@@ -1,6 +1,11 @@
 -- `read`: the tests in their order, a pass that keeps nothing and a pass that keeps the arrays. Assumes nothing.
 use mathlib.Core.Path.{_≡_, sym, ap, _∙_}
+use mathlib.Core.List.{List}
+use Prim.Native.Nat.{ℕ}
+use lib.Ieee.{Float}
 use denote.Ref.{now}
+use Rattle.doubles.specs.Buffer.{put}
+use Rattle.files.specs.Problem.{readAll}
 use Rattle.files.proofs.Laws.Calls.{places-same, room-of, too-long, not-ended, some-read, no-room, read-well, sizes-read, sizes-inside}
 use Rattle.files.specs.Call.{Places, roomy, places}
 use Rattle.files.specs.Places.{Header}
@@ -40,6 +45,24 @@ headed c =
 -- the test of the room is that of what was lent
 room : (c : tie.After-has-room) → c .has-room .result ≡ roomy (lent (entry (short (first (c .before .before .before .before .before .before)))))
 room c = c .has-room .ensures ∙ ap roomy (untouched (first (c .before .before .before .before .before .before)))
+
+-- the second pass puts what was read into the first places of what was lent
+stored : (c : tie.After-read-fields2) → let r = c .read-fields2 .last .1 .1 in
+    let start = entry (short (first (ended c .before))) in
+    let b = lent start in
+    let all = readAll (now (start .args .file)) in
+    places (r .0) (r .1 .0) (r .1 .1 .0) (r .1 .1 .1 .0)
+    ≡ places (put (b .targets) 0 (all .targets)) (put (b .values) 0 (all .values)) (put (b .starts) 0 (all .starts)) (put (b .rows) 0 (all .rows))
+stored c =
+    let again = c .read-fields2 .ensures in
+    let pass = first (ended c .before) in
+    let kept = pass .read-fields .ensures in
+    let all = readAll (now (entry (short pass) .args .file)) in
+    let targets = again .1 ∙ ap (λ (l : List Float). put l 0 (all .targets)) (kept .1) in
+    let values = again .2 ∙ ap (λ (l : List Float). put l 0 (all .values)) (kept .2) in
+    let starts = again .3 ∙ ap (λ (l : List ℕ). put l 0 (all .starts)) (kept .3) in
+    let rows = again .4 ∙ ap (λ (l : List ℕ). put l 0 (all .rows)) (kept .4) in
+    places-same targets values starts rows
 
 -- ---- the needs
 refused-requires : tie.Need-refused-requires
@@ -113,10 +136,14 @@ read-fields-requires-2 c κs =
     (short (first (whole .before)) .if1 .left, λ k. room-of _ _ _ _ (sym (test .before .has-room .ensures) ∙ test .if3 .taken))
 
 shape-of-requires : tie.Need-shape-of-requires
-shape-of-requires c κs = let whole = ended (c .before .before .before .before .before .before .before .before) in (headed whole .long, short (first (whole .before)) .if1 .left)
+shape-of-requires c κs =
+    let whole = ended (c .before .before .before .before .before .before .before .before) in
+    (headed whole .long, short (first (whole .before)) .if1 .left)
 
 settings-of-requires : tie.Need-settings-of-requires
-settings-of-requires c κs = let whole = ended (c .before .before .before .before .before .before .before .before .before) in (headed whole .long, short (first (whole .before)) .if1 .left)
+settings-of-requires c κs =
+    let whole = ended (c .before .before .before .before .before .before .before .before .before) in
+    (headed whole .long, short (first (whole .before)) .if1 .left)
 
 same-length-9 : tie.Need-same-length-9
 same-length-9 c =
@@ -153,10 +180,7 @@ returns-4 c =
     let counts = again .read-fields2 .ensures .0 in
     let sizes = sizes-read _ _ counts _ _ (c .before .shape-of .ensures) (c .settings-of .ensures) in
     let over = read-well _ (lent (entry (short pass))) (short pass .if1 .left) _ (pass .read-fields .ensures .0) _ end (whole .if2 .taken) roomy-lent in
-    let e = over _ _ sizes (places-same (again .read-fields2 .ensures .1 ∙ rw (pass .read-fields .ensures .1))
-    (again .read-fields2 .ensures .2 ∙ rw (pass .read-fields .ensures .2))
-    (again .read-fields2 .ensures .3 ∙ rw (pass .read-fields .ensures .3))
-    (again .read-fields2 .ensures .4 ∙ rw (pass .read-fields .ensures .4))) in
+    let e = over _ _ sizes (stored again) in
     (e .0, e .1, sizes-inside _ _ counts (short pass .if1 .left) (headed whole) _ (c .before .shape-of .ensures))
 
 pub read-spec : {M : Type 1} → statement M

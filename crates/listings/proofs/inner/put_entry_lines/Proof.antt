@@ -38,7 +38,8 @@ loop-less c = search needs
 loop-again : tie.Need-loop-again Inv-loop μ-loop
 loop-again c =
     let test = c .before .before .before .before .before in
-    (search needs, search needs, lines-turn _ _ _ (test .before .before .before .before .before .pre) _ (test .before .loop .inv .2) (c .before .before .put-entry-line .ensures))
+    let entry = test .before .before .before .before .before in
+    (search needs, search needs, lines-turn _ _ _ (entry .pre) _ (test .before .loop .inv .2) (c .before .before .put-entry-line .ensures))
 
 same-length : tie.Need-same-length Inv-loop μ-loop
 same-length c = search needs
