@@ -25,13 +25,10 @@ slice-read-x : tie.Need-slice-read-x Inv-loop μ-loop
 slice-read-x c = search needs
 
 sink-requires : tie.Need-sink-requires Inv-loop μ-loop
-sink-requires c κs = (
-  search needs,
-  search needs,
-  c .before .before .before .loop .inv .known,
-  heaped-good (c .before .before .before .loop .inv) (c .before .before .loop-test .taken),
-  heaped-next (c .before .before .before .loop .inv) (c .before .before .loop-test .taken),
-)
+sink-requires c κs =
+    let test = c .before .before in
+    let inv = test .before .loop .inv in
+    (search needs, search needs, inv .known, heaped-good inv (test .loop-test .taken), heaped-next inv (test .loop-test .taken))
 
 loop-less : tie.Need-loop-less Inv-loop μ-loop
 loop-less c = search needs

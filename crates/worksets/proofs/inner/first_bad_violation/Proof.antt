@@ -48,7 +48,7 @@ is-bad-violation-requires c κs = search needs
 
 -- the test at each feature
 abbrev bad : tie.In-loop Inv-loop μ-loop → ℕ → Bool
-bad c = badViolation (now (c .before .before .before .before .args .kkt)) (now (c .before .before .before .before .args .w))
+bad c = let entry = c .before .before .before .before in badViolation (now (entry .args .kkt)) (now (entry .args .w))
 
 returns : tie.Need-returns Inv-loop μ-loop
 returns c =
