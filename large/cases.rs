@@ -361,7 +361,8 @@ pub fn line(name: &str, ending: &Ending) -> String {
     match ending {
         Ending::Refused { number, place } => refused_line(name, *number, *place),
         Ending::Fitted { status, violation, counts: [iterations, epochs, extrapolations], weights, fit } => format!(
-            "{name} status {status} violation {:016x} iterations {iterations} epochs {epochs} extrapolations {extrapolations} nonzero {} weights {:016x} fit {:016x}",
+            "{name} status {status} violation {:016x} iterations {iterations} epochs {epochs} extrapolations {extrapolations} \
+             nonzero {} weights {:016x} fit {:016x}",
             violation.to_bits(),
             weights.iter().filter(|&&x| x != 0.0).count(),
             digest(weights),

@@ -22,9 +22,9 @@ fn fit_listing(
     out: &mut [u8],
 ) -> Written
     requires { ⌜ given.Inside problem (length (now targets)) (length (now values)) (length (now starts)) (length (now rows)) ⌝ }
-    ensures { λ r. ⌜ (writtenOf r ≡ def.textCall (given.listing problem (now (targets .entry)) (now (values .entry)) (now (starts .entry)) (now (rows .entry))) (now (out .entry)))
-        × (now (out .exit) ≡ def.textLeft (given.listing problem (now (targets .entry)) (now (values .entry)) (now (starts .entry)) (now (rows .entry))) (now (out .entry)))
-        × Short (writtenOf r) (length (now (out .entry))) ⌝ }
+    ensures { λ r. ⌜ (let text = given.listing problem (now (targets .entry)) (now (values .entry)) (now (starts .entry)) (now (rows .entry)) in
+        (writtenOf r ≡ def.textCall text (now (out .entry))) × (now (out .exit) ≡ def.textLeft text (now (out .entry)))
+        × Short (writtenOf r) (length (now (out .entry)))) ⌝ }
 {
     let mut w = [0.0; 32];
     let mut entries = [0.0; 256];

@@ -20,11 +20,14 @@ use Rattle.designs.specs.declared.Layout.the-variants.{Dense, Csc}
 use Rattle.designs.specs.declared.Shape.{Shape}
 use Rattle.runs.specs.declared.Settings.{Settings}
 use Rattle.files.specs.Bytes.{byte, u16, u32, u64, f64, doubles, indices}
-use Rattle.files.specs.Problem.{Read, nothing, isCsc, shapeOf, penaltyOf, settingsOf, goodHeader, tagAt, lengthAt, whole, known, sizeOf, stored, goodField, goodAt, good, joined, next, readOn, readAll}
+use Rattle.files.specs.Problem.{Read, nothing, isCsc, shapeOf, penaltyOf, settingsOf, goodHeader, tagAt, lengthAt, whole}
+use Rattle.files.specs.Problem.{known, sizeOf, stored, goodField, goodAt, good, joined, next, readOn, readAll}
 use Rattle.files.specs.Call.{Problem, problem, ended, parsed}
-use Rattle.files.specs.Written.{bytes, field, designCode, penaltyCode, extrapolateCode, alphaOf, secondOf, bytesOf, bytes32, header, sparse, written, Double, Doubles, Word, Words, OwnDoubles, Fitting}
+use Rattle.files.specs.Written.{bytes, field, designCode, penaltyCode, extrapolateCode, alphaOf, secondOf, bytesOf, bytes32}
+use Rattle.files.specs.Written.{header, sparse, written, Double, Doubles, Word, Words, OwnDoubles, Fitting}
 use Rattle.files.proofs.Laws.Walk.{at-end, one-more}
-use Rattle.files.proofs.Laws.Lies.{Lies, lies-first, lies-behind, lies-length, byte-there, u16-there, u16-back, u32-back, f64-back, doubles-long, words-long, doubles-back, words-back}
+use Rattle.files.proofs.Laws.Lies.{Lies, lies-first, lies-behind, lies-length, byte-there, u16-there, u16-back}
+use Rattle.files.proofs.Laws.Lies.{u32-back, f64-back, doubles-long, words-long, doubles-back, words-back}
 
 both-hold : {a b : Bool} → a ≡ true → b ≡ true → a and b ≡ true
 unfolding _and_
@@ -88,7 +91,8 @@ module _ (a : Shape) (s : Settings) (rest : List ℕ) where
   unfolding shapeOf field header bytes
   shape-back n p = λ i. record { layout = layout-back (a .layout) i; n = n-back n i; p = p-back p i }
 
-  settings-back : Word (s .start) → Word (s .iterations) → Word (s .epochs) → s .depth < 256 → Double (s .tolerance) → OwnDoubles (s .penalty) → settingsOf headed ≡ s
+  settings-back : Word (s .start) → Word (s .iterations) → Word (s .epochs) → s .depth < 256 → Double (s .tolerance) → OwnDoubles (s .penalty)
+      → settingsOf headed ≡ s
   unfolding settingsOf penaltyOf field header bytes f64 u64 u32 u16
   settings-back start iterations epochs small tolerance own =
       let q = s .penalty in

@@ -206,7 +206,8 @@ fn is_good(file: &[u8], c: Cursor) -> bool
 
 // Behind the field at the cursor.
 fn advance(file: &[u8], c: Cursor) -> Cursor
-    requires { ⌜ (c .at + 3 ≤ length (now file)) × (length (now file) ≤ 49152) × (c .targets ≤ 6144) × (c .values ≤ 4096) × (c .starts ≤ 12288) × (c .rows ≤ 12288) ⌝ }
+    requires { ⌜ (c .at + 3 ≤ length (now file)) × (length (now file) ≤ 49152)
+        × (c .targets ≤ 6144) × (c .values ≤ 4096) × (c .starts ≤ 12288) × (c .rows ≤ 12288) ⌝ }
     ensures { λ r. ⌜ r ≡ here.advanced (now (file .entry)) c ⌝ }
 {
     let at = c.at;
@@ -242,7 +243,8 @@ fn store(
     starts: &mut [u32],
     rows: &mut [u32],
 )
-    requires { ⌜ (def.whole (now file) (c .at) ≡ true) × (length (now file) ≤ 49152) × (keep ≡ true → here.Space (now file) c (length (now targets)) (length (now values)) (length (now starts)) (length (now rows))) ⌝ }
+    requires { ⌜ (def.whole (now file) (c .at) ≡ true) × (length (now file) ≤ 49152)
+        × (keep ≡ true → here.Space (now file) c (length (now targets)) (length (now values)) (length (now starts)) (length (now rows))) ⌝ }
     ensures { λ _. ⌜ (now (targets .exit) ≡ here.storedIn keep (now (file .entry)) (c .at) 2 (now (targets .entry)) (c .targets))
         × (now (values .exit) ≡ here.storedIn keep (now (file .entry)) (c .at) 3 (now (values .entry)) (c .values))
         × (now (starts .exit) ≡ here.indexedIn keep (now (file .entry)) (c .at) 4 (now (starts .entry)) (c .starts))
@@ -281,7 +283,8 @@ fn read_fields(
     starts: &mut [u32],
     rows: &mut [u32],
 ) -> Cursor
-    requires { ⌜ (length (now file) ≤ 49152) × (keep ≡ true → here.Room (length (now targets)) (length (now values)) (length (now starts)) (length (now rows))) ⌝ }
+    requires { ⌜ (length (now file) ≤ 49152)
+        × (keep ≡ true → here.Room (length (now targets)) (length (now values)) (length (now starts)) (length (now rows))) ⌝ }
     ensures { λ r. ⌜ here.Counts (now (file .entry)) r (def.readAll (now (file .entry)))
         × (now (targets .exit) ≡ here.keptIf keep (now (targets .entry)) (def.readAll (now (file .entry)) .targets))
         × (now (values .exit) ≡ here.keptIf keep (now (values .entry)) (def.readAll (now (file .entry)) .values))

@@ -20,7 +20,8 @@ use Rattle.doubles.proofs.Laws.Signs.{zero-turned, turned-scaled, turned-times,
 use Rattle.leaves.specs.Soft.{soft}
 use Rattle.doubles.specs.Answer.{none}
 use Rattle.doubles.proofs.Laws.Verdict.{spared}
-use Rattle.leaves.specs.Penalty.{alphaLegal, ratioLegal, gammaLegal, alphaOf, secondLegal, penaltyFault, sumAbs, sumSquares, mcpOf, sumMcp, value, proxL1, proxL1PlusL2, proxMcp, prox, excess, violationL1, violationL1PlusL2, violationMcp, violation}
+use Rattle.leaves.specs.Penalty.{alphaLegal, ratioLegal, alphaOf, secondLegal, penaltyFault, sumAbs, sumSquares, mcpOf, sumMcp, value}
+use Rattle.leaves.specs.Penalty.{proxL1, proxL1PlusL2, proxMcp, prox, excess, violationL1, violationL1PlusL2, violationMcp, violation}
 use Rattle.leaves.specs.Odd.{Odd}
 use Rattle.leaves.specs.declared.penalties.separable.Penalty.{Penalty}
 use Rattle.leaves.specs.declared.penalties.separable.Penalty.the-variants.{L1, L1PlusL2, MCP}
@@ -53,8 +54,13 @@ soft-turned {s} {x} {x'} t n p = go s p
     t= = turned-refl
 
     go : (s : Bool) → Turned s x x' → Turned s (soft x t) (soft x' t)
-    go false p = unfold soft in turned-pick (lt-same t= p) (turned-sub binary64 p t=) (turned-pick (lt-same p (turned-neg t=)) (turned-add binary64 p t=) turned-refl)
-    go true p = unfold soft sub in turned-crossed (apart t x n) (lt-turned p (turn-l t=)) (lt-turned (turn-r t=) p) (turned-add binary64 p (turn-l t=)) (turned-add binary64 p (turn-r t=)) (zero-turned true)
+    go false p = unfold soft in
+        let below = turned-pick (lt-same p (turned-neg t=)) (turned-add binary64 p t=) turned-refl in
+        turned-pick (lt-same t= p) (turned-sub binary64 p t=) below
+    go true p = unfold soft sub in
+        let less = turned-add binary64 p (turn-l t=) in
+        let more = turned-add binary64 p (turn-r t=) in
+        turned-crossed (apart t x n) (lt-turned p (turn-l t=)) (lt-turned (turn-r t=) p) less more (zero-turned true)
 
 -- a threshold below zero does not lie between x and -x: at -1, both 0 and -0 become 1
 pub soft-below-zero : Turned true #0 (neg #0) × (Turned true (soft #0 (neg #1)) (soft (neg #0) (neg #1)) → ⊥)
@@ -78,7 +84,8 @@ threshold alpha step h f n =
     at-least-zero (alpha ⊗ step) (mul-not-below alpha step (not-below alpha (a .1)) n) (product-number alpha step (a .0) f)
 
 -- ---- prox
-l1-prox : {s : Bool} {v v' : Float} (alpha step : Float) → lt alpha #0 ≡ false → lt step #0 ≡ false → Turned s v v' → Turned s (proxL1 alpha v step) (proxL1 alpha v' step)
+l1-prox : {s : Bool} {v v' : Float} (alpha step : Float) → lt alpha #0 ≡ false → lt step #0 ≡ false → Turned s v v'
+    → Turned s (proxL1 alpha v step) (proxL1 alpha v' step)
 unfolding proxL1
 l1-prox alpha step a n p = soft-turned (alpha ⊗ step) (mul-not-below alpha step a n) p
 
@@ -96,7 +103,8 @@ above-nonzero (inf s) t h k = tt
 above-nonzero (fin s zero e) t h k = true≢false (sym (zero-at-most t e h) ∙ k)
 above-nonzero (fin s (suc m) e) t h k = tt
 
-mcp-prox : {s : Bool} {v v' : Float} (alpha gamma step : Float) → le #0 (alpha ⊗ step) ≡ true → Turned s v v' → Turned s (proxMcp alpha gamma v step) (proxMcp alpha gamma v' step)
+mcp-prox : {s : Bool} {v v' : Float} (alpha gamma step : Float) → le #0 (alpha ⊗ step) ≡ true → Turned s v v'
+    → Turned s (proxMcp alpha gamma v step) (proxMcp alpha gamma v' step)
 unfolding proxMcp
 mcp-prox {s} {v} {v'} alpha gamma step h p =
     let tau = alpha ⊗ step in

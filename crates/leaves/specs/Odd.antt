@@ -12,7 +12,8 @@ use Rattle.leaves.specs.declared.penalties.separable.Penalty.{Penalty}
 
 pub record Odd (p : Penalty) : Type 0 where
   -- the prox of a turned value is turned, but for a zero's sign
-  pub prox : {s : Bool} {v v' : Float} (step : Float) → finite step ≡ true → lt step #0 ≡ false → Turned s v v' → Turned s (penalty.prox p v step) (penalty.prox p v' step)
+  pub prox : {s : Bool} {v v' : Float} (step : Float) → finite step ≡ true → lt step #0 ≡ false → Turned s v v'
+      → Turned s (penalty.prox p v step) (penalty.prox p v' step)
   -- the violation is the same where weight and gradient turn together
   pub violation : {s : Bool} {w w' g g' : Float} → Turned s w w' → Turned s g g' → penalty.violation p w g ≡ penalty.violation p w' g'
   -- the value is the same whichever weights turn

@@ -15,5 +15,6 @@ one-written (Written.Refused r) (Written.Bytes n) e = cc
 one-written (Written.Bytes m) (Written.Refused s) e = cc
 one-written (Written.Bytes m) (Written.Bytes n) e = cc
 
-write-listing-tight : (κs : _) (a : _) (r r' : Written) (s s' : _) → write-listing-reads.Post κs a r s → write-listing-reads.Post κs a r' s' → (r ≡ r') × (now (s .1 .1 .1 .0) ≡ now (s' .1 .1 .1 .0))
+write-listing-tight : (κs : _) (a : _) (r r' : Written) (s s' : _) → write-listing-reads.Post κs a r s → write-listing-reads.Post κs a r' s'
+    → (r ≡ r') × (now (s .1 .1 .1 .0) ≡ now (s' .1 .1 .1 .0))
 write-listing-tight κs a r r' s s' p q = (one-written r r' (coincide (p .0) (q .0)), coincide (p .1) (q .1))

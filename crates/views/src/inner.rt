@@ -47,8 +47,12 @@ pub fn coordinate_descent<'a, 'b, 'c, 'd, 'e, 'f>(
     indices: &'e mut [u32],
     scratch: &'f mut [f64],
 ) -> Fit
-    ensures { λ r. ⌜ (call.fitOf r ≡ call.fitCall (def.cscShape n p) (now (starts .entry)) (now (rows .entry)) (now (values .entry)) (now (y .entry)) settings (lent (now (w .entry)) (now (fit .entry)) (now (indices .entry)) (now (scratch .entry))))
-        × (lent (now (w .exit)) (now (fit .exit)) (now (indices .exit)) (now (scratch .exit)) ≡ call.fitLeft (def.cscShape n p) (now (starts .entry)) (now (rows .entry)) (now (values .entry)) (now (y .entry)) settings (lent (now (w .entry)) (now (fit .entry)) (now (indices .entry)) (now (scratch .entry)))) ⌝ }
+    ensures { λ r. ⌜ (let shape = def.cscShape n p in
+        let starts₀ = now (starts .entry) in let rows₀ = now (rows .entry) in let values₀ = now (values .entry) in
+        let buffers = lent (now (w .entry)) (now (fit .entry)) (now (indices .entry)) (now (scratch .entry)) in
+        (call.fitOf r ≡ call.fitCall shape starts₀ rows₀ values₀ (now (y .entry)) settings buffers)
+        × (lent (now (w .exit)) (now (fit .exit)) (now (indices .exit)) (now (scratch .exit))
+        ≡ call.fitLeft shape starts₀ rows₀ values₀ (now (y .entry)) settings buffers)) ⌝ }
 {
     let shape = Shape {
         layout: Layout::Csc,
@@ -78,8 +82,10 @@ pub fn compute_alpha_max<'a, 'b, 'c>(
     y: &'b [f64],
     xty: &'c mut [f64],
 ) -> Number
-    ensures { λ r. ⌜ (numberOf r ≡ calls.alphaMaxCall (def.cscShape n p) (now (starts .entry)) (now (rows .entry)) (now (values .entry)) (now (y .entry)) (now (xty .entry)))
-        × (now (xty .exit) ≡ calls.alphaMaxLeft (def.cscShape n p) (now (starts .entry)) (now (rows .entry)) (now (values .entry)) (now (y .entry)) (now (xty .entry))) ⌝ }
+    ensures { λ r. ⌜ (let shape = def.cscShape n p in
+        let starts₀ = now (starts .entry) in let rows₀ = now (rows .entry) in let values₀ = now (values .entry) in
+        (numberOf r ≡ calls.alphaMaxCall shape starts₀ rows₀ values₀ (now (y .entry)) (now (xty .entry)))
+        × (now (xty .exit) ≡ calls.alphaMaxLeft shape starts₀ rows₀ values₀ (now (y .entry)) (now (xty .entry)))) ⌝ }
 {
     datafits::compute_alpha_max_sparse(n, p, starts, rows, values, y, xty)
 }
@@ -93,8 +99,10 @@ pub fn initialize<'a, 'b, 'c>(
     y: &'b [f64],
     prepared: &'c mut [f64],
 ) -> Verdict
-    ensures { λ r. ⌜ (verdictOf r ≡ calls.initializeFault (def.cscShape n p) (now (starts .entry)) (now (rows .entry)) (now (values .entry)) (now (y .entry)) (now (prepared .entry)))
-        × (now (prepared .exit) ≡ calls.initialized (def.cscShape n p) (now (starts .entry)) (now (rows .entry)) (now (values .entry)) (now (y .entry)) (now (prepared .entry))) ⌝ }
+    ensures { λ r. ⌜ (let shape = def.cscShape n p in
+        let starts₀ = now (starts .entry) in let rows₀ = now (rows .entry) in let values₀ = now (values .entry) in
+        (verdictOf r ≡ calls.initializeFault shape starts₀ rows₀ values₀ (now (y .entry)) (now (prepared .entry)))
+        × (now (prepared .exit) ≡ calls.initialized shape starts₀ rows₀ values₀ (now (y .entry)) (now (prepared .entry)))) ⌝ }
 {
     let shape = Shape {
         layout: Layout::Csc,
@@ -114,7 +122,9 @@ pub fn gradient_j<'a, 'b, 'c>(
     fit: &'c [f64],
     feature: Feature,
 ) -> Number
-    ensures { λ r. ⌜ numberOf r ≡ calls.gradientCall (def.cscShape n p) (now (starts .entry)) (now (rows .entry)) (now (values .entry)) (now (prepared .entry)) (now (fit .entry)) (feature .0) ⌝ }
+    ensures { λ r. ⌜ (let shape = def.cscShape n p in
+        let starts₀ = now (starts .entry) in let rows₀ = now (rows .entry) in let values₀ = now (values .entry) in
+        numberOf r ≡ calls.gradientCall shape starts₀ rows₀ values₀ (now (prepared .entry)) (now (fit .entry)) (feature .0)) ⌝ }
 {
     let shape = Shape {
         layout: Layout::Csc,
@@ -134,8 +144,10 @@ pub fn full_grad<'a, 'b, 'c, 'd>(
     fit: &'c [f64],
     grad: &'d mut [f64],
 ) -> Verdict
-    ensures { λ r. ⌜ (verdictOf r ≡ calls.fullGradFault (def.cscShape n p) (now (starts .entry)) (now (rows .entry)) (now (values .entry)) (now (prepared .entry)) (now (fit .entry)) (now (grad .entry)))
-        × (now (grad .exit) ≡ calls.fullGrad (def.cscShape n p) (now (starts .entry)) (now (rows .entry)) (now (values .entry)) (now (prepared .entry)) (now (fit .entry)) (now (grad .entry))) ⌝ }
+    ensures { λ r. ⌜ (let shape = def.cscShape n p in
+        let starts₀ = now (starts .entry) in let rows₀ = now (rows .entry) in let values₀ = now (values .entry) in
+        (verdictOf r ≡ calls.fullGradFault shape starts₀ rows₀ values₀ (now (prepared .entry)) (now (fit .entry)) (now (grad .entry)))
+        × (now (grad .exit) ≡ calls.fullGrad shape starts₀ rows₀ values₀ (now (prepared .entry)) (now (fit .entry)) (now (grad .entry)))) ⌝ }
 {
     let shape = Shape {
         layout: Layout::Csc,
@@ -155,8 +167,10 @@ pub fn update_model_fit<'a, 'b>(
     diff: f64,
     feature: Feature,
 ) -> Verdict
-    ensures { λ r. ⌜ (verdictOf r ≡ calls.updateFault (def.cscShape n p) (now (starts .entry)) (now (rows .entry)) (now (values .entry)) (now (fit .entry)) (feature .0))
-        × (now (fit .exit) ≡ calls.updated (def.cscShape n p) (now (starts .entry)) (now (rows .entry)) (now (values .entry)) (now (fit .entry)) diff (feature .0)) ⌝ }
+    ensures { λ r. ⌜ (let shape = def.cscShape n p in
+        let starts₀ = now (starts .entry) in let rows₀ = now (rows .entry) in let values₀ = now (values .entry) in
+        (verdictOf r ≡ calls.updateFault shape starts₀ rows₀ values₀ (now (fit .entry)) (feature .0))
+        × (now (fit .exit) ≡ calls.updated shape starts₀ rows₀ values₀ (now (fit .entry)) diff (feature .0))) ⌝ }
 {
     let shape = Shape {
         layout: Layout::Csc,
@@ -176,8 +190,10 @@ pub fn compute_extrapolated_fit<'a, 'b, 'c, 'd>(
     w: &'c [f64],
     fit: &'d mut [f64],
 ) -> Verdict
-    ensures { λ r. ⌜ (verdictOf r ≡ calls.extrapolatedFault (def.cscShape n p) (now (starts .entry)) (now (rows .entry)) (now (values .entry)) (now (ws .entry)) (now (w .entry)) (now (fit .entry)))
-        × (now (fit .exit) ≡ calls.extrapolatedFit (def.cscShape n p) (now (starts .entry)) (now (rows .entry)) (now (values .entry)) (now (ws .entry)) (now (w .entry)) (now (fit .entry))) ⌝ }
+    ensures { λ r. ⌜ (let shape = def.cscShape n p in
+        let starts₀ = now (starts .entry) in let rows₀ = now (rows .entry) in let values₀ = now (values .entry) in
+        (verdictOf r ≡ calls.extrapolatedFault shape starts₀ rows₀ values₀ (now (ws .entry)) (now (w .entry)) (now (fit .entry)))
+        × (now (fit .exit) ≡ calls.extrapolatedFit shape starts₀ rows₀ values₀ (now (ws .entry)) (now (w .entry)) (now (fit .entry)))) ⌝ }
 {
     let shape = Shape {
         layout: Layout::Csc,

@@ -52,8 +52,12 @@ pub fn coordinate_descent_sparse<'a, 'b, 'c, 'd, 'e, 'f>(
     indices: &'e mut [u32],
     scratch: &'f mut [f64],
 ) -> Fit
-    ensures { λ r. ⌜ (call.fitOf r ≡ call.fitCall (def.cscShape n p) (now (x .entry .starts)) (now (x .entry .rows)) (now (x .entry .values)) (now (y .entry)) settings (lent (now (w .entry)) (now (fit .entry)) (now (indices .entry)) (now (scratch .entry))))
-        × (lent (now (w .exit)) (now (fit .exit)) (now (indices .exit)) (now (scratch .exit)) ≡ call.fitLeft (def.cscShape n p) (now (x .entry .starts)) (now (x .entry .rows)) (now (x .entry .values)) (now (y .entry)) settings (lent (now (w .entry)) (now (fit .entry)) (now (indices .entry)) (now (scratch .entry)))) ⌝ }
+    ensures { λ r. ⌜ (let shape = def.cscShape n p in
+        let starts₀ = now (x .entry .starts) in let rows₀ = now (x .entry .rows) in let values₀ = now (x .entry .values) in
+        let buffers = lent (now (w .entry)) (now (fit .entry)) (now (indices .entry)) (now (scratch .entry)) in
+        (call.fitOf r ≡ call.fitCall shape starts₀ rows₀ values₀ (now (y .entry)) settings buffers)
+        × (lent (now (w .exit)) (now (fit .exit)) (now (indices .exit)) (now (scratch .exit))
+        ≡ call.fitLeft shape starts₀ rows₀ values₀ (now (y .entry)) settings buffers)) ⌝ }
 {
     inner::coordinate_descent(
         x.starts,
@@ -78,8 +82,10 @@ pub fn compute_alpha_max_sparse<'a, 'b, 'c>(
     y: &'b [f64],
     xty: &'c mut [f64],
 ) -> Number
-    ensures { λ r. ⌜ (numberOf r ≡ calls.alphaMaxCall (def.cscShape n p) (now (x .entry .starts)) (now (x .entry .rows)) (now (x .entry .values)) (now (y .entry)) (now (xty .entry)))
-        × (now (xty .exit) ≡ calls.alphaMaxLeft (def.cscShape n p) (now (x .entry .starts)) (now (x .entry .rows)) (now (x .entry .values)) (now (y .entry)) (now (xty .entry))) ⌝ }
+    ensures { λ r. ⌜ (let shape = def.cscShape n p in
+        let starts₀ = now (x .entry .starts) in let rows₀ = now (x .entry .rows) in let values₀ = now (x .entry .values) in
+        (numberOf r ≡ calls.alphaMaxCall shape starts₀ rows₀ values₀ (now (y .entry)) (now (xty .entry)))
+        × (now (xty .exit) ≡ calls.alphaMaxLeft shape starts₀ rows₀ values₀ (now (y .entry)) (now (xty .entry)))) ⌝ }
 {
     inner::compute_alpha_max(x.starts, x.rows, x.values, n, p, y, xty)
 }
@@ -92,8 +98,10 @@ pub fn initialize_sparse<'a, 'b, 'c>(
     y: &'b [f64],
     prepared: &'c mut [f64],
 ) -> Verdict
-    ensures { λ r. ⌜ (verdictOf r ≡ calls.initializeFault (def.cscShape n p) (now (x .entry .starts)) (now (x .entry .rows)) (now (x .entry .values)) (now (y .entry)) (now (prepared .entry)))
-        × (now (prepared .exit) ≡ calls.initialized (def.cscShape n p) (now (x .entry .starts)) (now (x .entry .rows)) (now (x .entry .values)) (now (y .entry)) (now (prepared .entry))) ⌝ }
+    ensures { λ r. ⌜ (let shape = def.cscShape n p in
+        let starts₀ = now (x .entry .starts) in let rows₀ = now (x .entry .rows) in let values₀ = now (x .entry .values) in
+        (verdictOf r ≡ calls.initializeFault shape starts₀ rows₀ values₀ (now (y .entry)) (now (prepared .entry)))
+        × (now (prepared .exit) ≡ calls.initialized shape starts₀ rows₀ values₀ (now (y .entry)) (now (prepared .entry)))) ⌝ }
 {
     inner::initialize(x.starts, x.rows, x.values, n, p, y, prepared)
 }
@@ -107,7 +115,9 @@ pub fn gradient_j_sparse<'a, 'b, 'c>(
     fit: &'c [f64],
     feature: Feature,
 ) -> Number
-    ensures { λ r. ⌜ numberOf r ≡ calls.gradientCall (def.cscShape n p) (now (x .entry .starts)) (now (x .entry .rows)) (now (x .entry .values)) (now (prepared .entry)) (now (fit .entry)) (feature .0) ⌝ }
+    ensures { λ r. ⌜ (let shape = def.cscShape n p in
+        let starts₀ = now (x .entry .starts) in let rows₀ = now (x .entry .rows) in let values₀ = now (x .entry .values) in
+        numberOf r ≡ calls.gradientCall shape starts₀ rows₀ values₀ (now (prepared .entry)) (now (fit .entry)) (feature .0)) ⌝ }
 {
     inner::gradient_j(x.starts, x.rows, x.values, n, p, prepared, fit, feature)
 }
@@ -121,8 +131,10 @@ pub fn full_grad_sparse<'a, 'b, 'c, 'd>(
     fit: &'c [f64],
     grad: &'d mut [f64],
 ) -> Verdict
-    ensures { λ r. ⌜ (verdictOf r ≡ calls.fullGradFault (def.cscShape n p) (now (x .entry .starts)) (now (x .entry .rows)) (now (x .entry .values)) (now (prepared .entry)) (now (fit .entry)) (now (grad .entry)))
-        × (now (grad .exit) ≡ calls.fullGrad (def.cscShape n p) (now (x .entry .starts)) (now (x .entry .rows)) (now (x .entry .values)) (now (prepared .entry)) (now (fit .entry)) (now (grad .entry))) ⌝ }
+    ensures { λ r. ⌜ (let shape = def.cscShape n p in
+        let starts₀ = now (x .entry .starts) in let rows₀ = now (x .entry .rows) in let values₀ = now (x .entry .values) in
+        (verdictOf r ≡ calls.fullGradFault shape starts₀ rows₀ values₀ (now (prepared .entry)) (now (fit .entry)) (now (grad .entry)))
+        × (now (grad .exit) ≡ calls.fullGrad shape starts₀ rows₀ values₀ (now (prepared .entry)) (now (fit .entry)) (now (grad .entry)))) ⌝ }
 {
     inner::full_grad(x.starts, x.rows, x.values, n, p, prepared, fit, grad)
 }
@@ -136,8 +148,10 @@ pub fn update_model_fit_sparse<'a, 'b>(
     diff: f64,
     feature: Feature,
 ) -> Verdict
-    ensures { λ r. ⌜ (verdictOf r ≡ calls.updateFault (def.cscShape n p) (now (x .entry .starts)) (now (x .entry .rows)) (now (x .entry .values)) (now (fit .entry)) (feature .0))
-        × (now (fit .exit) ≡ calls.updated (def.cscShape n p) (now (x .entry .starts)) (now (x .entry .rows)) (now (x .entry .values)) (now (fit .entry)) diff (feature .0)) ⌝ }
+    ensures { λ r. ⌜ (let shape = def.cscShape n p in
+        let starts₀ = now (x .entry .starts) in let rows₀ = now (x .entry .rows) in let values₀ = now (x .entry .values) in
+        (verdictOf r ≡ calls.updateFault shape starts₀ rows₀ values₀ (now (fit .entry)) (feature .0))
+        × (now (fit .exit) ≡ calls.updated shape starts₀ rows₀ values₀ (now (fit .entry)) diff (feature .0))) ⌝ }
 {
     inner::update_model_fit(x.starts, x.rows, x.values, n, p, fit, diff, feature)
 }
@@ -151,8 +165,10 @@ pub fn compute_extrapolated_fit_sparse<'a, 'b, 'c, 'd>(
     w: &'c [f64],
     fit: &'d mut [f64],
 ) -> Verdict
-    ensures { λ r. ⌜ (verdictOf r ≡ calls.extrapolatedFault (def.cscShape n p) (now (x .entry .starts)) (now (x .entry .rows)) (now (x .entry .values)) (now (ws .entry)) (now (w .entry)) (now (fit .entry)))
-        × (now (fit .exit) ≡ calls.extrapolatedFit (def.cscShape n p) (now (x .entry .starts)) (now (x .entry .rows)) (now (x .entry .values)) (now (ws .entry)) (now (w .entry)) (now (fit .entry))) ⌝ }
+    ensures { λ r. ⌜ (let shape = def.cscShape n p in
+        let starts₀ = now (x .entry .starts) in let rows₀ = now (x .entry .rows) in let values₀ = now (x .entry .values) in
+        (verdictOf r ≡ calls.extrapolatedFault shape starts₀ rows₀ values₀ (now (ws .entry)) (now (w .entry)) (now (fit .entry)))
+        × (now (fit .exit) ≡ calls.extrapolatedFit shape starts₀ rows₀ values₀ (now (ws .entry)) (now (w .entry)) (now (fit .entry)))) ⌝ }
 {
     inner::compute_extrapolated_fit(x.starts, x.rows, x.values, n, p, ws, w, fit)
 }

@@ -52,7 +52,8 @@ module _ (f : List ℕ) (b : Places) (room : roomy b ≡ true) where
       back : {A : Type 0} (l xs : List A) → xs ≡ take (length xs) (put l 0 xs)
       back l xs = sym (part-at l 0 (length xs) xs (omega arith) refl)
 
-      go : (x : Outcome Problem) → answered z ≡ sized (given true x) → b' ≡ filled (given true x) b → x ≡ answered (problemIn z (b' .targets) (b' .values) (b' .starts) (b' .rows))
+      go : (x : Outcome Problem) → answered z ≡ sized (given true x) → b' ≡ filled (given true x) b
+          → x ≡ answered (problemIn z (b' .targets) (b' .values) (b' .starts) (b' .rows))
       go (refused m q) e l = cc
       go (answered P) e l =
           let q : z ≡ sizesOf P = cc in

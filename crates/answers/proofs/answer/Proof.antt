@@ -59,43 +59,40 @@ slice-aggregate-fit-listing-4 c = search needs
 
 fit-listing-requires : tie.Need-fit-listing-requires
 fit-listing-requires c κs =
-    let at-problem = c .before .before .before .before .before .before in
-    let at-read = at-problem .before .before .before .before .before .before in
-    own-places (at-problem .problem .given .0 .0) (at-read .read .last .1 .0) (at-read .read .last .1 .1 .0)
-    (at-read .read .last .1 .1 .1 .0) (at-read .read .last .1 .1 .1 .1 .0) #0 (at-read .read .kept .1 .0) (at-read .read .kept .1 .1 .0)
-    (at-read .read .kept .1 .1 .1 .0) (at-read .read .kept .1 .1 .1 .1 .0)
-    (rw (at-problem .problem .given .1) at (at-read .read .ensures .2))
+    let known = c .before .before .before .before .before .before .problem .given in
+    let read = c .before .before .before .before .before .before .before .before .before .before .before .before .read in
+    let l = read .last .1 in
+    let k = read .kept .1 in
+    let sizes = rw (known .1) at (read .ensures .2) in
+    own-places (known .0 .0) (l .0) (l .1 .0) (l .1 .1 .0) (l .1 .1 .1 .0) #0 (k .0) (k .1 .0) (k .1 .1 .0) (k .1 .1 .1 .0) sizes
 
 same-length : tie.Need-same-length
 same-length c = search needs
 
 returns : tie.Need-returns
 returns c =
-    let e = refusal-printed _ _ _ _ _
-    (now
-    (c .before .before .before .before .before .before .before .before .before .before .before .before .before .before .before .before .before .before .before .before .args .out))
-    _ _
-    (read-refused _ _ (own-room _) _ _
-    (sym (ap parsedOf (c .before .before .before .before .before .before .before .r .given .1)) ∙
-    c .before .before .before .before .before .before .before .before .before .before .before .before .before .read .ensures .0))
-    (omega arith) (omega arith) (c .before .before .write-listing .ensures .0) (c .before .before .write-listing .ensures .1) in
-    (e .0, e .1, c .before .before .write-listing .ensures .2)
+    let told = c .before .before .write-listing .ensures in
+    let behind = c .before .before .before .before .before .before .before .before .before .before .before .before .before in
+    let entry = behind .before .before .before .before .before .before .before in
+    let is-refused = sym (ap parsedOf (c .before .before .before .before .before .before .before .r .given .1)) ∙ behind .read .ensures .0 in
+    let refused = read-refused _ _ (own-room _) _ _ is-refused in
+    let e = refusal-printed _ _ _ _ _ (now (entry .args .out)) _ _ refused (omega arith) (omega arith) (told .0) (told .1) in
+    (e .0, e .1, told .2)
 
 same-length-2 : tie.Need-same-length-2
 same-length-2 c = search needs
 
 returns-2 : tie.Need-returns-2
 returns-2 c =
-    let at-problem = c .before .before .before .before .before .before .before .before .before in
-    let at-read = at-problem .before .before .before .before .before .before in
-    let entry = at-read .before .before .before .before .before .before .before in
-    let e = fit-printed _ _ (now (entry .args .out)) _ _
-    (read-problem _ _ (own-room _) _
-    (places (at-read .read .last .1 .0) (at-read .read .last .1 .1 .0) (at-read .read .last .1 .1 .1 .0)
-    (at-read .read .last .1 .1 .1 .1 .0))
-    (sym (ap parsedOf (at-problem .problem .given .1)) ∙ at-read .read .ensures .0) (at-read .read .ensures .1))
-    (c .before .before .fit-listing .ensures .0) (c .before .before .fit-listing .ensures .1) in
-    (e .0, e .1, c .before .before .fit-listing .ensures .2)
+    let told = c .before .before .fit-listing .ensures in
+    let behind = c .before .before .before .before .before .before .before .before .before .before .before .before .before .before .before in
+    let entry = behind .before .before .before .before .before .before .before in
+    let read = behind .read in
+    let l = read .last .1 in
+    let sizes = sym (ap parsedOf (c .before .before .before .before .before .before .before .before .before .problem .given .1)) ∙ read .ensures .0 in
+    let there = places (l .0) (l .1 .0) (l .1 .1 .0) (l .1 .1 .1 .0) in
+    let e = fit-printed _ _ (now (entry .args .out)) _ _ (read-problem _ _ (own-room _) _ there sizes (read .ensures .1)) (told .0) (told .1) in
+    (e .0, e .1, told .2)
 
 pub answer-spec : {M : Type 1} → statement M
 answer-spec =

@@ -1,6 +1,8 @@
 -- `fit_listing`: the fit of the problem, then its listing. Assumes nothing.
 use mathlib.Core.Path.{sym}
+use Prim.Native.Nat.{_≤_}
 use native.Mathlib.Nat.{le-of-eq, le-trans}
+use lib.ListN.{length}
 use lib.Seq.{length-take-le}
 use denote.Ref.{now}
 use Rattle.runs.specs.Call.{fitOf}
@@ -12,25 +14,37 @@ use borrow.Author.Needs.{needs}
 use Rattle.answers.proofs.fit_listing.Statement.{statement}
 use Rattle.answers.proofs.fit_listing.Tie as tie
 
+-- ---- behind the fit
+abbrev entry : tie.After-coordinate-descent → tie.Start
+entry c = c .before .before .before .before .before .before .before .before .before .before .before .before .before .before .before .before
+
+-- its weights and its fit are in the first places of the program's own
+weights-there : (c : tie.After-coordinate-descent) → entry c .args .problem .shape .p ≤ length (c .coordinate-descent .last .1 .1 .1 .1 .1 .1 .0)
+weights-there c = le-trans (entry c .pre .features) (le-of-eq (sym (c .coordinate-descent .kept .1 .1 .1 .1 .1 .1 .0)))
+
+fit-there : (c : tie.After-coordinate-descent) → entry c .args .problem .shape .n ≤ length (c .coordinate-descent .last .1 .1 .1 .1 .1 .1 .1 .0)
+fit-there c = le-trans (entry c .pre .samples) (le-of-eq (sym (c .coordinate-descent .kept .1 .1 .1 .1 .1 .1 .1 .0)))
+
+-- ---- the needs
 slice-aggregate-coordinate-descent : tie.Need-slice-aggregate-coordinate-descent
 slice-aggregate-coordinate-descent c =
-    let entry = c .before .before .before .before .before .before .before .before in
-    sym (length-take-le _ _ (entry .pre .starts))
+    let start = c .before .before .before .before .before .before .before .before in
+    sym (length-take-le _ _ (start .pre .starts))
 
 slice-aggregate-coordinate-descent-2 : tie.Need-slice-aggregate-coordinate-descent-2
 slice-aggregate-coordinate-descent-2 c =
-    let entry = c .before .before .before .before .before .before .before .before .before in
-    sym (length-take-le _ _ (entry .pre .rows))
+    let start = c .before .before .before .before .before .before .before .before .before in
+    sym (length-take-le _ _ (start .pre .rows))
 
 slice-aggregate-coordinate-descent-3 : tie.Need-slice-aggregate-coordinate-descent-3
 slice-aggregate-coordinate-descent-3 c =
-    let entry = c .before .before .before .before .before .before .before .before .before .before in
-    sym (length-take-le _ _ (entry .pre .values))
+    let start = c .before .before .before .before .before .before .before .before .before .before in
+    sym (length-take-le _ _ (start .pre .values))
 
 slice-aggregate-coordinate-descent-4 : tie.Need-slice-aggregate-coordinate-descent-4
 slice-aggregate-coordinate-descent-4 c =
-    let entry = c .before .before .before .before .before .before .before .before .before .before .before in
-    sym (length-take-le _ _ (entry .pre .targets))
+    let start = c .before .before .before .before .before .before .before .before .before .before .before in
+    sym (length-take-le _ _ (start .pre .targets))
 
 slice-aggregate-coordinate-descent-5 : tie.Need-slice-aggregate-coordinate-descent-5
 slice-aggregate-coordinate-descent-5 c = search needs
@@ -51,27 +65,13 @@ array-share-prefix-w : tie.Need-array-share-prefix-w
 array-share-prefix-w c = search needs
 
 slice-aggregate-write-listing : tie.Need-slice-aggregate-write-listing
-slice-aggregate-write-listing c =
-    let entry =
-    c .before .before .before .before .before .before .before .before .before .before .before .before .before .before .before .before .before .before .before .before .before
-    in
-    sym
-    (length-take-le _ _
-    (le-trans (entry .pre .features)
-    (le-of-eq (sym (c .before .before .before .before .before .coordinate-descent .kept .1 .1 .1 .1 .1 .1 .0)))))
+slice-aggregate-write-listing c = sym (length-take-le _ _ (weights-there (c .before .before .before .before .before)))
 
 array-share-prefix-entries : tie.Need-array-share-prefix-entries
 array-share-prefix-entries c = search needs
 
 slice-aggregate-write-listing-2 : tie.Need-slice-aggregate-write-listing-2
-slice-aggregate-write-listing-2 c =
-    let entry =
-    c .before .before .before .before .before .before .before .before .before .before .before .before .before .before .before .before .before .before .before .before .before .before
-    in
-    sym
-    (length-take-le _ _
-    (le-trans (entry .pre .samples)
-    (le-of-eq (sym (c .before .before .before .before .before .before .coordinate-descent .kept .1 .1 .1 .1 .1 .1 .1 .0)))))
+slice-aggregate-write-listing-2 c = sym (length-take-le _ _ (fit-there (c .before .before .before .before .before .before)))
 
 write-listing-requires : tie.Need-write-listing-requires
 write-listing-requires c κs = search needs
@@ -82,25 +82,17 @@ same-length c = search needs
 returns : tie.Need-returns
 unfolding fitted left
 returns c =
-    let at-coordinate-descent = c .before .before .before .before .before .before .before .before .before .before in
-    let entry =
-    at-coordinate-descent .before .before .before .before .before .before .before .before .before .before .before .before .before .before .before .before
-    in
-    let e = fit-listed
-    (problemIn (entry .args .problem) (now (entry .args .targets)) (now (entry .args .values)) (now (entry .args .starts))
-    (now (entry .args .rows)))
-    (fitOf (at-coordinate-descent .coordinate-descent .result))
-    (lent (at-coordinate-descent .coordinate-descent .last .1 .1 .1 .1 .1 .1 .0)
-    (at-coordinate-descent .coordinate-descent .last .1 .1 .1 .1 .1 .1 .1 .0)
-    (at-coordinate-descent .coordinate-descent .last .1 .1 .1 .1 .1 .1 .1 .1 .0)
-    (at-coordinate-descent .coordinate-descent .last .1 .1 .1 .1 .1 .1 .1 .1 .1 .0))
-    (now (entry .args .out)) _ _ (at-coordinate-descent .coordinate-descent .ensures .0)
-    (at-coordinate-descent .coordinate-descent .ensures .1)
-    (le-trans (entry .pre .features) (le-of-eq (sym (at-coordinate-descent .coordinate-descent .kept .1 .1 .1 .1 .1 .1 .0))))
-    (entry .pre .features)
-    (le-trans (entry .pre .samples) (le-of-eq (sym (at-coordinate-descent .coordinate-descent .kept .1 .1 .1 .1 .1 .1 .1 .0))))
-    (entry .pre .samples) (c .before .before .write-listing .ensures .0) (c .before .before .write-listing .ensures .1) in
-    (e .0, e .1, c .before .before .write-listing .ensures .2)
+    let told = c .before .before .write-listing .ensures in
+    let behind = c .before .before .before .before .before .before .before .before .before .before in
+    let fit = behind .coordinate-descent in
+    let l = fit .last .1 .1 .1 .1 .1 .1 in
+    let left-there = lent (l .0) (l .1 .0) (l .1 .1 .0) (l .1 .1 .1 .0) in
+    let start = entry behind in
+    let a = start .args in
+    let problem = problemIn (a .problem) (now (a .targets)) (now (a .values)) (now (a .starts)) (now (a .rows)) in
+    let listed = fit-listed problem (fitOf (fit .result)) left-there (now (a .out)) _ _ (fit .ensures .0) (fit .ensures .1) in
+    let e = listed (weights-there behind) (start .pre .features) (fit-there behind) (start .pre .samples) (told .0) (told .1) in
+    (e .0, e .1, told .2)
 
 pub fit-listing-spec : {M : Type 1} → statement M
 fit-listing-spec =

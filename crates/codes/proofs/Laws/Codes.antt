@@ -19,7 +19,8 @@ use Rattle.runs.specs.declared.Settings.{Settings}
 use Rattle.codes.specs.Codes.{numberOfFit, placeOfFit, reported, penaltyOf, settingsOf}
 
 -- ---- the arms of a match on the answer
-pub refused-told : (d : Fit) (r : Refusal) (old : Report) → d ≡ Fit.Refused r → (r .number ≡ numberOfFit (fitOf d)) × (r .place ≡ placeOfFit (fitOf d)) × (old ≡ reported (fitOf d) old)
+pub refused-told : (d : Fit) (r : Refusal) (old : Report) → d ≡ Fit.Refused r
+    → (r .number ≡ numberOfFit (fitOf d)) × (r .place ≡ placeOfFit (fitOf d)) × (old ≡ reported (fitOf d) old)
 refused-told d r old h = rw h (refl, refl, refl)
 
 pub done-told : (d : Fit) (r old : Report) → d ≡ Fit.Done r → (0 ≡ numberOfFit (fitOf d)) × (0 ≡ placeOfFit (fitOf d)) × (r ≡ reported (fitOf d) old)

@@ -109,7 +109,10 @@ div-clear f (fin false m e) (inf true) p q = absurd q
 div-clear f (fin false m e) (inf false) p q = tt
 div-clear f (fin false m e) (fin true n d) p q = absurd q
 div-clear f (fin false m e) (fin false n d) p q =
-    either (eqb n 0) (cond (eqb m 0) nan (inf false)) (round f false (m * up e * down d) (n * up d * down e)) (either (eqb m 0) nan (inf false) tt tt) (round-clear f (m * up e * down d) (n * up d * down e))
+    let above : ℕ = m * up e * down d in
+    let below : ℕ = n * up d * down e in
+    let by-zero = either (eqb m 0) nan (inf false) tt tt in
+    either (eqb n 0) (cond (eqb m 0) nan (inf false)) (round f false above below) by-zero (round-clear f above below)
 
 square-clear : (f : Format) (x : Float) → T (clear (mul f x x))
 unfolding mul

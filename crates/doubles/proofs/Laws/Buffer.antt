@@ -42,7 +42,10 @@ module _ {A : Type 0} where
   put-put l g xs ys h k =
       let e : length (take g l) ≡ g = length-take-le g l (omega arith) in
       let e2 : length (take g l ++ xs) ≡ g + length ys = length-append (take g l) xs ∙ rw (e, k) in
-      rw (take-at (take g l) (xs ++ drop (g + length xs) l) g e, ← append-assoc (take g l) xs (drop (g + length xs) l), drop-at (take g l ++ xs) (drop (g + length xs) l) (g + length ys) e2, k)
+      let behind = drop (g + length xs) l in
+      let front = take-at (take g l) (xs ++ behind) g e in
+      let back = drop-at (take g l ++ xs) behind (g + length ys) e2 in
+      rw (front, ← append-assoc (take g l) xs behind, back, k)
 
   -- a part put right behind another
   pub put-behind : (l : List A) (g : ℕ) (xs ys : List A) → g + length xs ≤ length l → put (put l g xs) (g + length xs) ys ≡ put l g (xs ++ ys)

@@ -1,10 +1,11 @@
 -- Choices by a test. Assumes nothing.
 use mathlib.Core.Path.{_≡_, refl}
 use mathlib.Core.Bool.{Bool, true, false, false≢true}
-use Prim.Native.Nat.{ℕ, zero, suc, _<_}
-use native.Mathlib.Nat.{zero-lt-suc}
-use lib.Dec.{T}
+use Prim.Native.Nat.{ℕ, zero, suc, _≤_, _<_}
+use native.Mathlib.Nat.{zero-lt-suc, le-refl}
+use lib.Dec.{T, ltb}
 use lib.Ieee.{Float}
+use borrow.Author.Tests.{ltb-false}
 use Rattle.doubles.specs.Num.{pick, _and_}
 use Rattle.doubles.specs.Sign.{Turned}
 
@@ -12,6 +13,14 @@ use Rattle.doubles.specs.Sign.{Turned}
 pub positive : (n : ℕ) → (n ≡ 0 → ⊥) → 0 < n
 positive zero h = absurd (h refl)
 positive (suc n) h = zero-lt-suc n
+
+-- the smaller of two numbers, as the definition of a working set picks it
+pub smaller-most : (a b : ℕ) → pick (ltb b a) b a ≤ b
+smaller-most a b = go (ltb b a) refl
+  where
+    go : (t : Bool) → ltb b a ≡ t → pick t b a ≤ b
+    go true e = le-refl b
+    go false e = ltb-false b a e
 
 pub and-both : (a b : Bool) → a and b ≡ true → (a ≡ true) × (b ≡ true)
 unfolding _and_

@@ -4,7 +4,7 @@ use Prim.Native.Nat.{ℕ, zero, suc, _*_}
 use native.Mathlib.Nat.{zero-add, add-zero, add-comm}
 use mathlib.Core.Bool.{Bool, true, false, not, _&&_, _||_, Bool·beq}
 use lib.Dec.{eqb, leb·suc-zero}
-use lib.Ieee.{Float, nan, inf, fin, up, down, below, level, neg, lt, le, eq}
+use lib.Ieee.{Float, nan, inf, fin, up, down, below, level, neg, lt, eq}
 use Rattle.doubles.specs.Num.{abs, finite}
 use Rattle.doubles.specs.Sign.{plain, flip, Turned}
 use Rattle.doubles.proofs.Laws.Turn.{zero₂}
@@ -168,7 +168,3 @@ eq-flip false x y = refl
 
 pub eq-turned : {s : Bool} {x x' y y' : Float} → Turned s x x' → Turned s y y' → eq x y ≡ eq x' y'
 eq-turned {s} {x} {x'} {y} {y'} p q = cc (eq-flip s x y, eq-plain (flip s x) (flip s y), eq-plain x' y')
-
-pub le-same : {x x' y y' : Float} → Turned false x x' → Turned false y y' → le x y ≡ le x' y'
-unfolding le
-le-same p q = cc (lt-same p q, eq-turned p q)

@@ -93,6 +93,3 @@ same-self l = record { each = λ a. refl }
 
 pub same-trans : (l m n : List ℕ) → Same l m → Same m n → Same l n
 same-trans l m n s t = record { each = λ a. s .each a ∙ t .each a }
-
-pub same-back : (l m : List ℕ) → Same l m → Same m l
-same-back l m s = record { each = λ a. sym (s .each a) }

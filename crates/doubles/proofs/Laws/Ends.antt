@@ -36,11 +36,6 @@ neither-holds a b h k = rw (h, k)
 
 -- ---- whether all hold
 module _ (g : ℕ → Bool) where
-  pub all-hold : (n : ℕ) → ((i : ℕ) → i < n → g i ≡ true) → all g n ≡ true
-  unfolding steps _and_
-  all-hold zero h = refl
-  all-hold (suc n) h = rw (all-hold n (λ i l. h i (omega arith))) (h n (omega arith))
-
   -- one fails, and so they do not all hold; and the other way round
   pub all-fail : (n i : ℕ) → i < n → g i ≡ false → all g n ≡ false
   all-fail n i l e = go (all g n) refl

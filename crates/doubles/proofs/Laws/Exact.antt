@@ -1,19 +1,19 @@
--- A value that fits is rounded to itself, so x + 0 is x for an x that fits and is no -0: what a stored zero adds to a sum. Assumes nothing.
-use mathlib.Core.Path.{_≡_, refl, sym, ap, _∙_, subst}
+-- A value that fits is rounded to itself. Assumes nothing.
+use mathlib.Core.Path.{_≡_, refl, sym, ap, _∙_}
 use Prim.Native.Nat.{ℕ, zero, suc, _+_, _-_, _*_, _%_, _^_, _≤_, _<_, suc-le-suc}
-use native.Mathlib.Nat.{suc-inj, lt-of-not-le, add-zero, sub-zero, zero-mul, lt-irrefl, le-of-eq, lt-of-lt-of-le, lt-of-le-of-lt, mul-one, mul-comm, mul-assoc, mul-left-comm, mul-right-comm, mul-pos, zero-lt-suc, pow-suc, pow-succ', eq-of-mul-eq-mul-right, mul-lt-mul-of-pos-right, lt-of-mul-lt-mul-right}
+use native.Mathlib.Nat.{suc-inj, zero-lt-suc, lt-of-not-le, lt-irrefl, le-of-eq, lt-of-lt-of-le, lt-of-le-of-lt, pow-suc, pow-succ'}
+use native.Mathlib.Nat.{mul-one, mul-comm, mul-assoc, mul-left-comm, mul-right-comm, mul-pos}
+use native.Mathlib.Nat.{eq-of-mul-eq-mul-right, mul-lt-mul-of-pos-right, lt-of-mul-lt-mul-right}
 use native.Mathlib.Omega.{arith}
-use mathlib.Core.Bool.{Bool, true, false, _&&_}
+use mathlib.Core.Bool.{Bool, _&&_}
 use lib.IntN.{ℤ, pos, negsuc}
 use lib.Pow.{pow-add, pow-pos, pow-lt}
-use lib.Dec.{T, leb, ltb, eqb, ltb→lt, leb→le, eqb→eq, leb·suc-zero, leb·suc-suc, leb·zero}
-use lib.Ieee.{Float, nan, inf, fin, Format, prec, emax, low, up, down, unlike, round, sum, add, mul, fits}
+use lib.Dec.{T, leb, ltb, eqb, ltb→lt, leb→le, eqb→eq}
+use lib.Ieee.{Float, nan, inf, fin, Format, prec, emax, low, up, down, round, fits}
 use lib.Ieee.Fits.{up-pos, down-pos, and-l, and-r, round-fits}
 use lib.Ieee.Digits.{back}
 use lib.Ieee.Exact.{HasValue, round-exact}
-use Rattle.doubles.specs.Sign.{negzero, nonzero}
-use Rattle.doubles.proofs.Laws.Turn.{round-zero, zero₂}
-use Rattle.doubles.proofs.Laws.Zero.{zero-is}
+use Rattle.doubles.proofs.Laws.Turn.{zero₂}
 
 -- ---- a number is written in one way
 even-odd : (m t : ℕ) → m % 2 ≡ 1 → m ≡ 2 * t → ⊥
@@ -84,16 +84,21 @@ in-units f m (negsuc k) h =
 
 below-top : (f : Format) (m : ℕ) (e : ℤ) → Fits f m e → suc m * 2 ^ shift f e < 2 ^ (low f + suc (emax f))
 below-top f m e F =
-    let l = 2 ^ low f in
-    lt-of-mul-lt-mul-right (down e)
-    (lt-of-le-of-lt (le-of-eq (sym (in-units f (suc m) e (F .fine))))
-    (lt-of-lt-of-le (mul-lt-mul-of-pos-right (F .small) (pow-pos (low f)))
-    (le-of-eq (mul-right-comm (2 ^ suc (emax f)) (down e) l ∙ ap (λ (x : ℕ). x * down e) (mul-comm (2 ^ suc (emax f)) l ∙ sym (pow-add 2 (low f) (suc (emax f))))))))
+    let l : ℕ = 2 ^ low f in
+    let top : ℕ = 2 ^ suc (emax f) in
+    let here = le-of-eq (sym (in-units f (suc m) e (F .fine))) in
+    let below = mul-lt-mul-of-pos-right (F .small) (pow-pos (low f)) in
+    let whole = mul-comm top l ∙ sym (pow-add 2 (low f) (suc (emax f))) in
+    let there = le-of-eq (mul-right-comm top (down e) l ∙ ap (λ (x : ℕ). x * down e) whole) in
+    lt-of-mul-lt-mul-right (down e) (lt-of-le-of-lt here (lt-of-lt-of-le below there))
 
-same-value : (f : Format) (s : Bool) (m : ℕ) (e : ℤ) → Fits f m e → (z : Float) → T (fits f z) → HasValue z s (suc m * up e) (down e) → z ≡ fin s (suc m) e
+same-value : (f : Format) (s : Bool) (m : ℕ) (e : ℤ) → Fits f m e
+    → (z : Float) → T (fits f z) → HasValue z s (suc m * up e) (down e) → z ≡ fin s (suc m) e
 same-value f s m e F nan h v = absurd v
 same-value f s m e F (inf t) h v = absurd v
-same-value f s m e F (fin t zero g) h v = absurd (lt-irrefl 0 (lt-of-lt-of-le (mul-pos (mul-pos (zero-lt-suc m) (up-pos e)) (down-pos g)) (le-of-eq (sym (v .1) ∙ zero₂ (up g) (down e)))))
+same-value f s m e F (fin t zero g) h v =
+    let more = mul-pos (mul-pos (zero-lt-suc m) (up-pos e)) (down-pos g) in
+    absurd (lt-irrefl 0 (lt-of-lt-of-le more (le-of-eq (sym (v .1) ∙ zero₂ (up g) (down e)))))
 same-value f s m e F (fin t (suc n) g) h v =
     let r = unique (suc n) (suc m) g e (says f t n g h .odd) (F .odd) (v .1) in
     λ i. fin (v .0 i) (r .0 i) (r .1 i)
@@ -103,32 +108,3 @@ round-self f s m e h =
     let F = says f s m e h in
     same-value f s m e F (round f s (suc m * up e) (down e)) (round-fits f s (suc m * up e) (down e))
     (round-exact f s (suc m * up e) (down e) (suc m) (shift f e) (down-pos e) (F .digits) (below-top f m e F) (in-units f (suc m) e (F .fine)))
-
--- ---- x + 0
-sum-zero : (f : Format) (s : Bool) (a : ℕ) (t : Bool) (b c : ℕ) → 0 < a → b ≡ 0 → sum f s a t b c ≡ round f s a c
-unfolding sum
-sum-zero f s zero t b c p h = absurd (lt-irrefl 0 p)
-sum-zero f true (suc a) true b c p h = rw (h, add-zero (suc a))
-sum-zero f false (suc a) false b c p h = rw (h, add-zero (suc a))
-sum-zero f true (suc a) false b c p h = rw (h, leb·suc-zero (suc a), leb·suc-suc 0 a, leb·zero a, sub-zero (suc a))
-sum-zero f false (suc a) true b c p h = rw (h, leb·suc-zero (suc a), sub-zero (suc a))
-
-from-zero : (f : Format) (t : Bool) (c : ℕ) → sum f false 0 t 0 c ≡ fin false 0 (pos 0)
-unfolding sum
-from-zero f true c = round-zero f false 0 c refl
-from-zero f false c = round-zero f false 0 c refl
-
-pub add-zero-right : (f : Format) (x : Float) (t : Bool) → T (fits f x) → negzero x ≡ false → add f x (fin t 0 (pos 0)) ≡ x
-unfolding add negzero nonzero
-add-zero-right f nan t h z = refl
-add-zero-right f (inf s) t h z = refl
-add-zero-right f (fin s zero e) t h z = subst (λ (x : Float). add f x (fin t 0 (pos 0)) ≡ x) (sym (zero-is f (fin s zero e) h z refl)) (from-zero f t 1)
-add-zero-right f (fin s (suc m) e) t h z =
-    sum-zero f s (suc m * up e * 1) t (0 * 1 * down e) (down e * 1) (mul-pos (mul-pos (zero-lt-suc m) (up-pos e)) (zero-lt-suc 0)) (zero₂ 1 (down e))
-    ∙ ap (λ (x : ℕ). round f s x (down e * 1)) (mul-one (suc m * up e)) ∙ ap (λ (x : ℕ). round f s (suc m * up e) x) (mul-one (down e))
-    ∙ round-self f s m e h
-
--- a stored zero times a finite number adds nothing to a sum that starts at +0
-pub zero-term : (f : Format) (s : Bool) (t : Bool) (n : ℕ) (d : ℤ) → mul f (fin s 0 (pos 0)) (fin t n d) ≡ fin (unlike s t) 0 (pos 0)
-unfolding mul
-zero-term f s t n d = round-zero f (unlike s t) (0 * 1 * (n * up d)) (1 * down d) (zero-mul (n * up d))

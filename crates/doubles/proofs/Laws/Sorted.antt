@@ -1,16 +1,15 @@
--- Lists in order, for any strict order of numbers. The first of a list in order are determined: two lists in order with the same members are the
--- same list. The idea: the head of each stands in the other, so neither is ahead. Assumes nothing.
+-- Lists in order, for any strict order of numbers. The first of a list in order are determined by its members. The idea: the head of each of two such
+-- lists stands in the other, so neither is ahead. Assumes nothing.
 use mathlib.Core.Path.{_≡_, refl, sym, ap, _∙_}
 use mathlib.Core.Bool.{Bool, true, false}
 use mathlib.Core.Logic.{_⊎_, inl, inr}
-use mathlib.Core.List.{List, [], _∷_, _++_, append-nil}
+use mathlib.Core.List.{List, [], _∷_, _++_}
 use Prim.Native.Nat.{ℕ, zero, suc, _+_, _≤_, _<_}
 use native.Mathlib.Nat.{zero-lt-suc}
 use native.Mathlib.Omega.{arith}
-use lib.ListN.{length, getD, take, length-take}
-use lib.Seq.{take-all}
+use lib.ListN.{length, getD, take}
 use Rattle.doubles.specs.Inner.Order.{Behind, Strict, Each, OrderedFrom, is, count, Same}
-use Rattle.doubles.proofs.Laws.Counts.{is-self, each-cons, each-append, counted-each, same-back}
+use Rattle.doubles.proofs.Laws.Counts.{is-self, each-cons, each-append, counted-each}
 
 -- ---- a number at the head of a list in order
 module _ {ahead : ℕ → ℕ → Bool} where
@@ -76,19 +75,3 @@ module _ {ahead : ℕ → ℕ → Bool} {Good : ℕ → Type 0} (o : Strict ahea
 
       go : (Same (s ++ over) l → s ≡ take (length s) l) → a ∷ s ≡ c ∷ take (length s) l
       go f = let h = here in let t = f tails in cc
-
-  -- two lists in order with the same members are the same list
-  pub same-list : (l m : List ℕ) → OrderedFrom ahead 0 l → OrderedFrom ahead 0 m → Same l m → l ≡ m
-  same-list l m p q s = e ∙ take-all (length l) m few
-    where
-      none : {k : List ℕ} → Each (λ x. Each (Behind ahead x) k) []
-      none = record { each = λ i h. absurd (omega arith) }
-
-      e : l ≡ take (length l) m
-      e = first-of l [] m p none q (rw append-nil s)
-
-      f : m ≡ take (length m) l
-      f = first-of m [] l q none p (rw append-nil (same-back l m s))
-
-      few : length m ≤ length l
-      few = let h = ap length f in let n = length-take (length m) l in omega arith

@@ -9,7 +9,7 @@ use native.Mathlib.Numerals.{add-one}
 use native.Mathlib.Nat.{le-antisymm, add-zero, add-suc}
 use native.Mathlib.Omega.{arith}
 use borrow.Author.Count.{below-more}
-use lib.ListN.{length, getD, set, drop, length-append, length-drop, drop-of-length-le, List·getD-append}
+use lib.ListN.{length, getD, set, drop, length-append, drop-of-length-le, List·getD-append}
 use lib.Seq.{drop-cons, getD-at, set-at, getD-set-same, getD-set-other}
 use Rattle.doubles.specs.Num.{pick, _and_}
 use Rattle.doubles.specs.Steps.{steps, tab, all, upward, downward, Stage, going, stopped, bad, next, upto, over}
@@ -85,10 +85,6 @@ module _ {A : Type 0} (g : ℕ → A) where
   tab-none l = refl
 
   module _ (l m : List A) (i : ℕ) (e : m ≡ tab g i ++ drop i l) where
-    pub tab-length : i ≤ length l → length m ≡ length l
-    tab-length h =
-        ap length e ∙ length-append (tab g i) (drop i l) ∙ rw (length-tab i, length-drop i l) (omega arith)
-
     -- the place that comes next holds what it held
     pub tab-here : (d : A) → i < length l → getD m i d ≡ getD l i d
     tab-here d h = rw (e, drop-cons l i d h) (getD-at (tab g i) (getD l i d) (drop (suc i) l) d i (length-tab i))

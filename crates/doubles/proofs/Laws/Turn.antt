@@ -66,13 +66,6 @@ neg-neg (inf false) = refl
 neg-neg (fin true m e) = refl
 neg-neg (fin false m e) = refl
 
-pub plain-plain : (x : Float) → plain (plain x) ≡ plain x
-unfolding plain
-plain-plain nan = refl
-plain-plain (inf s) = refl
-plain-plain (fin s zero e) = refl
-plain-plain (fin s (suc m) e) = refl
-
 pub neg-plain : (x : Float) → plain (neg x) ≡ plain (neg (plain x))
 unfolding plain neg
 neg-plain nan = refl
@@ -111,13 +104,15 @@ sum-neg f true a true b c = ap plain (round-neg f true (a + b) c)
 sum-neg f false a false b c = ap plain (round-neg f false (a + b) c)
 sum-neg f true a false b c = go (ltb a b) (ltb b a) (nltb→le a b) (nltb→le b a)
   where
-    go : (v w : Bool) → (T (not v) → b ≤ a) → (T (not w) → a ≤ b) → plain (cond v (round f true (b - a) c) (round f false (a - b) c)) ≡ plain (neg (cond v (round f false (b - a) c) (round f w (a - b) c)))
+    go : (v w : Bool) → (T (not v) → b ≤ a) → (T (not w) → a ≤ b)
+        → plain (cond v (round f true (b - a) c) (round f false (a - b) c)) ≡ plain (neg (cond v (round f false (b - a) c) (round f w (a - b) c)))
     go true w h k = ap plain (round-neg f false (b - a) c)
     go false true h k = ap plain (round-neg f true (a - b) c)
     go false false h k = let e : a - b ≡ 0 = level a b (h tt) (k tt) in rz f false (a - b) c e ∙ sym (rzn f false (a - b) c e)
 sum-neg f false a true b c = go (ltb a b) (ltb b a) (nltb→le a b) (nltb→le b a)
   where
-    go : (v w : Bool) → (T (not v) → b ≤ a) → (T (not w) → a ≤ b) → plain (cond v (round f false (b - a) c) (round f w (a - b) c)) ≡ plain (neg (cond v (round f true (b - a) c) (round f false (a - b) c)))
+    go : (v w : Bool) → (T (not v) → b ≤ a) → (T (not w) → a ≤ b)
+        → plain (cond v (round f false (b - a) c) (round f w (a - b) c)) ≡ plain (neg (cond v (round f true (b - a) c) (round f false (a - b) c)))
     go true w h k = ap plain (round-neg f true (b - a) c)
     go false true h k = ap plain (round-neg f false (a - b) c)
     go false false h k = let e : a - b ≡ 0 = level a b (h tt) (k tt) in rz f false (a - b) c e ∙ sym (rzn f false (a - b) c e)
@@ -158,7 +153,10 @@ add-plain f (fin s zero e) (fin t zero d) = both
     b = zero * up d * down e
 
     both : plain (sum f s a t b c) ≡ plain (sum f false a false b c)
-    both = zsum-l f s a t b c (zero₂ (up e) (down d)) ∙ rz f t b c (zero₂ (up d) (down e)) ∙ sym (zsum-l f false a false b c (zero₂ (up e) (down d)) ∙ rz f false b c (zero₂ (up d) (down e)))
+    both =
+        let az = zero₂ (up e) (down d) in
+        let bz = zero₂ (up d) (down e) in
+        zsum-l f s a t b c az ∙ rz f t b c bz ∙ sym (zsum-l f false a false b c az ∙ rz f false b c bz)
 add-plain f (fin s zero e) (fin t (suc n) d) = zsum-l f s _ t _ _ (zero₂ (up e) (down d)) ∙ sym (zsum-l f false _ t _ _ (zero₂ (up e) (down d)))
 add-plain f (fin s (suc m) e) (fin t zero d) = zsum-r f s _ t _ _ (zero₂ (up d) (down e)) ∙ sym (zsum-r f s _ false _ _ (zero₂ (up d) (down e)))
 add-plain f (fin s (suc m) e) (fin t (suc n) d) = refl
@@ -175,10 +173,6 @@ unlike-r true true = refl
 unlike-r true false = refl
 unlike-r false true = refl
 unlike-r false false = refl
-
-neg-cond : (b : Bool) (x y : Float) → neg (cond b x y) ≡ cond b (neg x) (neg y)
-neg-cond true x y = refl
-neg-cond false x y = refl
 
 inf-not : (b s t : Bool) → s ≡ not t → cond b nan (inf s) ≡ neg (cond b nan (inf t))
 unfolding neg
@@ -247,8 +241,12 @@ mul-plain f (fin s (suc m) e) nan = refl
 mul-plain f (fin s zero e) (inf t) = refl
 mul-plain f (fin s (suc m) e) (inf t) = refl
 mul-plain f (fin s zero e) (fin t zero d) = rz f (unlike s t) _ _ (zero₂ (up e) (0 * up d)) ∙ sym (rz f false _ _ (zero₂ (up e) (0 * up d)))
-mul-plain f (fin s zero e) (fin t (suc n) d) = rz f (unlike s t) _ _ (zero₂ (up e) (suc n * up d)) ∙ sym (rz f (unlike false t) _ _ (zero₂ (up e) (suc n * up d)))
-mul-plain f (fin s (suc m) e) (fin t zero d) = rz f (unlike s t) _ _ (zero₄ (suc m * up e) (up d)) ∙ sym (rz f (unlike s false) _ _ (zero₄ (suc m * up e) (up d)))
+mul-plain f (fin s zero e) (fin t (suc n) d) =
+    let z = zero₂ (up e) (suc n * up d) in
+    rz f (unlike s t) _ _ z ∙ sym (rz f (unlike false t) _ _ z)
+mul-plain f (fin s (suc m) e) (fin t zero d) =
+    let z = zero₄ (suc m * up e) (up d) in
+    rz f (unlike s t) _ _ z ∙ sym (rz f (unlike s false) _ _ z)
 mul-plain f (fin s (suc m) e) (fin t (suc n) d) = refl
 
 -- in the dividend only: 1 / +0 and 1 / -0 differ

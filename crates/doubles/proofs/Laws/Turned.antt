@@ -6,26 +6,10 @@ use lib.Dec.{T}
 use lib.Ieee.{Float, nan, inf, fin, Format, unlike, neg, add, sub, mul, div, lt, ofBits}
 use Rattle.doubles.specs.Num.{_⊘_, #0, #1}
 use Rattle.doubles.specs.Sign.{plain, flip, Turned, nonzero}
-use Rattle.doubles.proofs.Laws.Turn.{neg-neg, plain-plain, neg-plain, add-neg, add-plain, mul-neg-l, mul-neg-r, mul-plain, div-neg-l, div-neg-r, div-plain}
+use Rattle.doubles.proofs.Laws.Turn.{neg-neg, neg-plain, add-neg, add-plain}
+use Rattle.doubles.proofs.Laws.Turn.{mul-neg-l, mul-neg-r, mul-plain, div-neg-l, div-neg-r, div-plain}
 
 -- ---- `flip` goes through each operation
-flip-plain : (s : Bool) (x : Float) → plain (flip s x) ≡ plain (flip s (plain x))
-unfolding flip
-flip-plain true x = neg-plain x
-flip-plain false x = sym (plain-plain x)
-
-pub flip-flip : (s : Bool) (x : Float) → flip s (flip s x) ≡ x
-unfolding flip
-flip-flip true x = neg-neg x
-flip-flip false x = refl
-
-flip-unlike : (s t : Bool) (x : Float) → flip (unlike s t) x ≡ flip t (flip s x)
-unfolding flip
-flip-unlike true true x = sym (neg-neg x)
-flip-unlike true false x = refl
-flip-unlike false true x = refl
-flip-unlike false false x = refl
-
 flip-neg : (s : Bool) (x : Float) → flip s (neg x) ≡ neg (flip s x)
 unfolding flip
 flip-neg true x = refl
@@ -58,12 +42,6 @@ turned-refl = record { is = refl }
 pub turned-by : (s : Bool) (x : Float) → Turned s x (flip s x)
 turned-by s x = record { is = refl }
 
-pub turned-trans : {s t : Bool} {x y z : Float} → Turned s x y → Turned t y z → Turned (unlike s t) x z
-turned-trans {s} {t} {x} {y} {z} p q = record { is = cc (flip-unlike s t x, flip-plain t (flip s x), flip-plain t y) }
-
-pub turned-sym : {s : Bool} {x y : Float} → Turned s x y → Turned s y x
-turned-sym {s} {x} {y} p = record { is = cc (flip-plain s y, flip-plain s (flip s x), flip-flip s x) }
-
 -- ---- the operations
 pub turned-neg : {s : Bool} {x y : Float} → Turned s x y → Turned s (neg x) (neg y)
 turned-neg {s} {x} {y} p = record { is = cc (flip-neg s x, neg-plain (flip s x), neg-plain y) }
@@ -90,7 +68,8 @@ pub turned-mul : (f : Format) {s t : Bool} {x x' y y' : Float} → Turned s x x'
 turned-mul f {s} {t} {x} {x'} {y} {y'} p q = record { is = cc (flip-mul f s t x y, mul-plain f (flip s x) (flip t y), mul-plain f x' y') }
 
 -- by a divisor that is turned exactly, a zero's sign included
-pub turned-div : (f : Format) {s : Bool} (t : Bool) {x x' : Float} (y : Float) {y' : Float} → Turned s x x' → flip t y ≡ y' → Turned (unlike s t) (div f x y) (div f x' y')
+pub turned-div : (f : Format) {s : Bool} (t : Bool) {x x' : Float} (y : Float) {y' : Float} → Turned s x x' → flip t y ≡ y'
+    → Turned (unlike s t) (div f x y) (div f x' y')
 turned-div f {s} t {x} {x'} y {y'} p q = record { is = cc (flip-div f s t x y, div-plain f (flip s x) (flip t y), div-plain f x' y') }
 
 -- by the same divisor
@@ -130,9 +109,6 @@ turned-nonzero {s} {x} {y} p = cc (flip-nonzero s x, plain-nonzero (flip s x), p
 
 pub turned-exact : {s : Bool} {x y : Float} → T (nonzero x) → Turned s x y → flip s x ≡ y
 turned-exact {s} {x} {y} h p = sym (plain-id (flip s x) (rw flip-nonzero h)) ∙ p .is ∙ plain-id y (rw (← turned-nonzero p) h)
-
-pub turned-div-nonzero : (f : Format) {s t : Bool} {x x' y y' : Float} → T (nonzero y) → Turned s x x' → Turned t y y' → Turned (unlike s t) (div f x y) (div f x' y')
-turned-div-nonzero f {t = t} {y = y} h p q = turned-div f t y p (turned-exact h q)
 
 -- the divisor may be no zero: 0 is -0 but for its sign, and 1 / 0 is not 1 / -0
 pub zero-divides-otherwise : Turned false #0 (neg #0) × (Turned false (#1 ⊘ #0) (#1 ⊘ neg #0) → ⊥)

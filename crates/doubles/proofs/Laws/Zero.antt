@@ -81,9 +81,6 @@ step A B g h L a b c p q r k n =
 up-down : (x y : ℕ) → x ≤ y → 2 ^ y ≡ 2 ^ (y - x) * 2 ^ x
 up-down x y h = ap (λ (z : ℕ). 2 ^ z) (sym (back y x h)) ∙ pow-add 2 (y - x) x
 
-ge-one : (a b : ℕ) → a < b → 1 ≤ b - a
-ge-one a b h = omega arith
-
 -- a / c - b / c is a whole number of the format's smallest values
 grid : (m n : ℕ) (e d : ℤ) (L : ℕ) → 0 < L → down e ≤ L → down d ≤ L → m * up e * down d < n * up d * down e
     → down e * down d ≤ (n * up d * down e - m * up e * down d) * L

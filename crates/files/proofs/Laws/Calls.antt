@@ -72,7 +72,8 @@ module _ (f : List ℕ) (b : Places) where
         fine = rw (whole-problem, m)
 
         pub read-well : (o : Outcome Sizes) (b' : Places) → o ≡ answered (sizesOf (problem f (readAll f)))
-            → b' ≡ places (put (b .targets) 0 (readAll f .targets)) (put (b .values) 0 (readAll f .values)) (put (b .starts) 0 (readAll f .starts)) (put (b .rows) 0 (readAll f .rows))
+            → let all = readAll f in
+            b' ≡ places (put (b .targets) 0 (all .targets)) (put (b .values) 0 (all .values)) (put (b .starts) 0 (all .starts)) (put (b .rows) 0 (all .rows))
             → Left o b'
         unfolding readCall readLeft
         read-well o b' eo eb = rw fine (eo, eb)

@@ -50,7 +50,8 @@ module _ (f : List ℕ) (s : Read) (h : good f s ≡ true) where
       let g : goodField f (s .at) (s .tag) (length (s .values)) ≡ true = go (eqb (s .at) 0) refl choice in
       and-both _ _ (and-both _ _ (and-both _ _ g .1) .1) .1
     where
-      go : (b : Bool) → eqb (s .at) 0 ≡ b → pick b (goodHeader f) (goodField f (s .at) (s .tag) (length (s .values))) ≡ true → goodField f (s .at) (s .tag) (length (s .values)) ≡ true
+      go : (b : Bool) → eqb (s .at) 0 ≡ b → pick b (goodHeader f) (goodField f (s .at) (s .tag) (length (s .values))) ≡ true
+          → goodField f (s .at) (s .tag) (length (s .values)) ≡ true
       go true q c = absurd (n (eqb-true (s .at) 0 q))
       go false q c = c
 
@@ -157,7 +158,8 @@ unfolding put
 put-nothing true l = refl
 put-nothing false l = refl
 
-kept-more : {A : Type 0} (keep b : Bool) (l xs ys m : List A) (n : ℕ) → m ≡ keptIf keep l xs → n ≡ length xs → (keep ≡ true → b ≡ true → n + length ys ≤ length l)
+kept-more : {A : Type 0} (keep b : Bool) (l xs ys m : List A) (n : ℕ) → m ≡ keptIf keep l xs → n ≡ length xs
+    → (keep ≡ true → b ≡ true → n + length ys ≤ length l)
     → pick keep (pick b (put m n ys) m) m ≡ keptIf keep l (pick b (xs ++ ys) xs)
 kept-more true true l xs ys m n em en h =
     let q = h refl refl in
@@ -198,7 +200,8 @@ module _ (f : List ℕ) (keep : Bool) (t₀ v₀ : List Float) (s₀ r₀ : List
     headed = λ n. absurd (n refl);
   }
 
-  pub walked-none : (b : Bool) → b ≡ goodAt f 0 0 0 → Walked f keep t₀ v₀ s₀ r₀ t₀ v₀ s₀ r₀ (record { at = 0; tag = 0; targets = 0; values = 0; starts = 0; rows = 0 }) b
+  pub walked-none : (b : Bool) → b ≡ goodAt f 0 0 0
+      → Walked f keep t₀ v₀ s₀ r₀ t₀ v₀ s₀ r₀ (record { at = 0; tag = 0; targets = 0; values = 0; starts = 0; rows = 0 }) b
   unfolding readAll
   walked-none b e = record {
     so-far = nothing;

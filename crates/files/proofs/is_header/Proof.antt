@@ -1,5 +1,8 @@
 -- `is_header`: the tests in their turn; behind the length, the bytes are there. Assumes nothing.
+use Prim.Native.Nat.{_≤_}
 use native.Mathlib.Omega.{arith}
+use lib.ListN.{length}
+use denote.Ref.{now}
 use borrow.Author.Tests.{eq-eqb, ne-eqb, le-leb, lt-leb}
 use Rattle.doubles.specs.Num.{_and_}
 use Rattle.files.specs.Problem.{goodHeader}
@@ -23,10 +26,12 @@ returns-2 : tie.Need-returns-2
 unfolding goodHeader _and_
 returns-2 c = rw (eq-eqb _ _ (c .before .before .if1 .left), ← c .before .u16-at .ensures .0, ne-eqb _ _ (c .if2 .taken))
 
+-- behind the length the header's 51 bytes are there
+long : (c : tie.Else2) → 51 ≤ length (now (c .before .before .before .before .before .args .file))
+long c = header-long _ _ (c .before .before .before .before .before .pre .0) (c .before .u16-at .ensures .0) (c .if2 .left)
+
 u32-at-requires : tie.Need-u32-at-requires
-u32-at-requires c κs =
-    let h = (header-long _ _ (c .before .before .before .before .before .pre .0) (c .before .u16-at .ensures .0) (c .if2 .left)) in
-    (omega arith, c .before .before .before .before .before .pre .1)
+u32-at-requires c κs = let h = long c in (omega arith, c .before .before .before .before .before .pre .1)
 
 returns-3 : tie.Need-returns-3
 unfolding goodHeader _and_
@@ -40,12 +45,7 @@ returns-3 c =
     )
 
 u32-at-requires-2 : tie.Need-u32-at-requires-2
-u32-at-requires-2 c κs =
-    let h =
-    (header-long _ _ (c .before .before .before .before .before .before .before .pre .0) (c .before .before .before .u16-at .ensures .0)
-    (c .before .before .if2 .left))
-    in
-    (omega arith, c .before .before .before .before .before .before .before .pre .1)
+u32-at-requires-2 c κs = let h = long (c .before .before) in (omega arith, c .before .before .before .before .before .before .before .pre .1)
 
 returns-4 : tie.Need-returns-4
 unfolding goodHeader _and_
@@ -61,21 +61,16 @@ returns-4 c =
     )
 
 shared-slice-read-if5 : tie.Need-shared-slice-read-if5
-shared-slice-read-if5 c =
-    let h =
-    (header-long _ _ (c .before .before .before .before .before .before .before .before .before .before .pre .0)
-    (c .before .before .before .before .before .before .u16-at .ensures .0) (c .before .before .before .before .before .if2 .left))
-    in
-    omega arith
+shared-slice-read-if5 c = let h = long (c .before .before .before .before .before) in omega arith
 
 returns-5 : tie.Need-returns-5
 unfolding goodHeader _and_
 returns-5 c =
-    let at-if1 = c .before .before .before .before .before .before .before .before in
+    let second = c .before .before .before .before .before .before in
     rw (
-      eq-eqb _ _ (at-if1 .if1 .left),
-      ← c .before .before .before .before .before .before .before .u16-at .ensures .0,
-      eq-eqb _ _ (c .before .before .before .before .before .before .if2 .left),
+      eq-eqb _ _ (second .before .before .if1 .left),
+      ← second .before .u16-at .ensures .0,
+      eq-eqb _ _ (second .if2 .left),
       ← c .before .before .before .before .before .u32-at .ensures .0,
       le-leb _ _ (c .before .before .before .before .if3 .left),
       ← c .before .before .before .u32-at2 .ensures .0,
@@ -84,24 +79,16 @@ returns-5 c =
     )
 
 shared-slice-read-if6 : tie.Need-shared-slice-read-if6
-shared-slice-read-if6 c =
-    let h =
-    (header-long _ _ (c .before .before .before .before .before .before .before .before .before .before .before .before .pre .0)
-    (c .before .before .before .before .before .before .before .before .u16-at .ensures .0)
-    (c .before .before .before .before .before .before .before .if2 .left))
-    in
-    omega arith
+shared-slice-read-if6 c = let h = long (c .before .before .before .before .before .before .before) in omega arith
 
 returns-6 : tie.Need-returns-6
 unfolding goodHeader _and_
 returns-6 c =
-    let at-if2 = c .before .before .before .before .before .before .before .before in
-    let at-u16-at = at-if2 .before in
-    let at-if1 = at-u16-at .before in
+    let second = c .before .before .before .before .before .before .before .before in
     rw (
-      eq-eqb _ _ (at-if1 .if1 .left),
-      ← at-u16-at .u16-at .ensures .0,
-      eq-eqb _ _ (at-if2 .if2 .left),
+      eq-eqb _ _ (second .before .before .if1 .left),
+      ← second .before .u16-at .ensures .0,
+      eq-eqb _ _ (second .if2 .left),
       ← c .before .before .before .before .before .before .before .u32-at .ensures .0,
       le-leb _ _ (c .before .before .before .before .before .before .if3 .left),
       ← c .before .before .before .before .before .u32-at2 .ensures .0,
@@ -111,27 +98,17 @@ returns-6 c =
     )
 
 shared-slice-read-result : tie.Need-shared-slice-read-result
-shared-slice-read-result c =
-    let h =
-    (header-long _ _
-    (c .before .before .before .before .before .before .before .before .before .before .before .before .before .before .pre .0)
-    (c .before .before .before .before .before .before .before .before .before .before .u16-at .ensures .0)
-    (c .before .before .before .before .before .before .before .before .before .if2 .left))
-    in
-    omega arith
+shared-slice-read-result c = let h = long (c .before .before .before .before .before .before .before .before .before) in omega arith
 
 returns-7 : tie.Need-returns-7
 unfolding goodHeader _and_
 returns-7 c =
-    let at-u32-at = c .before .before .before .before .before .before .before .before in
-    let at-if2 = at-u32-at .before in
-    let at-u16-at = at-if2 .before in
-    let at-if1 = at-u16-at .before in
+    let second = c .before .before .before .before .before .before .before .before .before in
     rw (
-      eq-eqb _ _ (at-if1 .if1 .left),
-      ← at-u16-at .u16-at .ensures .0,
-      eq-eqb _ _ (at-if2 .if2 .left),
-      ← at-u32-at .u32-at .ensures .0,
+      eq-eqb _ _ (second .before .before .if1 .left),
+      ← second .before .u16-at .ensures .0,
+      eq-eqb _ _ (second .if2 .left),
+      ← c .before .before .before .before .before .before .before .before .u32-at .ensures .0,
       le-leb _ _ (c .before .before .before .before .before .before .before .if3 .left),
       ← c .before .before .before .before .before .before .u32-at2 .ensures .0,
       le-leb _ _ (c .before .before .before .before .before .if4 .left),

@@ -23,21 +23,22 @@ returns : tie.Need-returns
 returns c =
     let both = c .before .before in
     let sizes = both .before .sizes-agree .ensures in
-    fine _ _ _ _ _ (both .before .before .before .before .dense .ensures) _ _ _ (both .both .ensures) sizes (c .before .if1 .taken)
-    (c .if2 .taken)
+    let shape = both .before .before .before .before .dense .ensures in
+    fine _ _ _ _ _ shape _ _ _ (both .both .ensures) sizes (c .before .if1 .taken) (c .if2 .taken)
 
 returns-2 : tie.Need-returns-2
 returns-2 c =
     let both = c .before .before in
     let sizes = both .before .sizes-agree .ensures in
-    short _ _ _ _ _ (both .before .before .before .before .dense .ensures) _ _ _ (both .both .ensures) sizes (c .before .if1 .taken)
-    (c .if2 .left)
+    let shape = both .before .before .before .before .dense .ensures in
+    short _ _ _ _ _ shape _ _ _ (both .both .ensures) sizes (c .before .if1 .taken) (c .if2 .left)
 
 returns-3 : tie.Need-returns-3
 returns-3 c =
     let both = c .before in
     let sizes = both .before .sizes-agree .ensures in
-    wrong _ _ _ _ _ (both .before .before .before .before .dense .ensures) _ _ _ (both .both .ensures) sizes (c .if1 .left)
+    let shape = both .before .before .before .before .dense .ensures in
+    wrong _ _ _ _ _ shape _ _ _ (both .both .ensures) sizes (c .if1 .left)
 
 pub admit-column-spec : {M : Type 1} → statement M
 admit-column-spec =

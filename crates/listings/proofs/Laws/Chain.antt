@@ -13,10 +13,12 @@ use Rattle.listings.specs.Listing.{_then_}
 use Rattle.listings.specs.Wrote.{Room, Wrote}
 
 -- a text written place by place: one place more, and once all are
-pub text-more : (l m : List ℕ) (a k : ℕ) (xs : List ℕ) → m ≡ put l a (tab (λ i. getD xs i 0) k) → a + k < length l → set m (a + k) (getD xs k 0) ≡ put l a (tab (λ i. getD xs i 0) (k + 1))
+pub text-more : (l m : List ℕ) (a k : ℕ) (xs : List ℕ) → m ≡ put l a (tab (λ i. getD xs i 0) k) → a + k < length l
+    → set m (a + k) (getD xs k 0) ≡ put l a (tab (λ i. getD xs i 0) (k + 1))
 text-more l m a k xs e h = rw e (put-more (λ i. getD xs i 0) l a k 0 h (getD xs k 0) refl)
 
-pub wrote-all : (l m : List ℕ) (a k : ℕ) (xs : List ℕ) → m ≡ put l a (tab (λ i. getD xs i 0) k) → k ≤ length xs → length xs ≤ k → a + length xs ≤ length l → Wrote l m a (a + k) xs
+pub wrote-all : (l m : List ℕ) (a k : ℕ) (xs : List ℕ) → m ≡ put l a (tab (λ i. getD xs i 0) k) → k ≤ length xs → length xs ≤ k
+    → a + length xs ≤ length l → Wrote l m a (a + k) xs
 wrote-all l m a k xs e p q h =
     let n = le-antisymm p q in
     record { bytes = e ∙ rw n (ap (put l a) (tab-getD xs 0)); place = ap (λ (i : ℕ). a + i) n; room = record { fits = h } }

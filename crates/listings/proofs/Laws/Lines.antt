@@ -12,7 +12,8 @@ use Rattle.doubles.specs.Steps.{steps}
 use Rattle.doubles.proofs.Laws.Buffer.{put-none}
 use Rattle.doubles.proofs.Laws.Steps.{steps-more}
 use Rattle.runs.specs.declared.Report.{Report}
-use Rattle.listings.specs.Listing.{_then_, codes, places, decimal, hex16, bitsOf, newline, labelled, countLine, bitsLine, entryLine, entryLines, reportLines, listing, refusedLine}
+use Rattle.listings.specs.Listing.{_then_, codes, places, decimal, hex16, bitsOf, newline, labelled}
+use Rattle.listings.specs.Listing.{countLine, bitsLine, entryLine, entryLines, reportLines, listing, refusedLine}
 use Rattle.listings.specs.Wrote.{Room, Wrote}
 use Rattle.listings.proofs.Laws.Chain.{length-then, wrote-both, room-next}
 use Rattle.listings.proofs.Laws.Digits.{places-few, places-below, length-decimal, length-hex16}

@@ -21,8 +21,8 @@ refused-requires-2 c κs = search needs
 
 returns-2 : tie.Need-returns-2
 returns-2 c =
-    let e = refused-3 _ _ _ _ _ (c .before .before .before .sizes-fit .ensures) (c .before .before .if1 .taken) _ (c .before .if2 .left)
-    (c .refused2 .ensures) in
+    let fits = c .before .before .before .sizes-fit .ensures in
+    let e = refused-3 _ _ _ _ _ fits (c .before .before .if1 .taken) _ (c .before .if2 .left) (c .refused2 .ensures) in
     (e .0, e .1, rw (c .refused2 .ensures) tt)
 
 enum-known-fit : tie.Need-enum-known-fit
@@ -36,31 +36,29 @@ enum-known-fit-2 c = search needs
 
 put-listing-requires : tie.Need-put-listing-requires
 put-listing-requires c κs =
-    let e = sizes _ _ _ (c .before .before .before .before .before .before .sizes-fit .ensures)
-    (c .before .before .before .before .before .if1 .taken) in
-    listing-room _ _ _ _ (e .0) (e .1) (c .before .before .before .before .if2 .taken)
+    let room = c .before .before .before .before in
+    let e = sizes _ _ _ (room .before .before .sizes-fit .ensures) (room .before .if1 .taken) in
+    listing-room _ _ _ _ (e .0) (e .1) (room .if2 .taken)
 
 same-length : tie.Need-same-length
 same-length c = search needs
 
 returns-3 : tie.Need-returns-3
 returns-3 c =
-    let at-if1 = c .before .before .before .before .before .before .before .before in
-    let at-sizes-fit = at-if1 .before in
-    let e = written _ _ _ _ _ (at-sizes-fit .sizes-fit .ensures) (at-if1 .if1 .taken) _ _
-    (c .before .before .before .before .before .before .before .if2 .taken) (c .before .before .put-refusal .ensures) in
-    rw (c .before .before .before .before .before .fit .given .1) (e .0, e .1, within _ _ _ _ (c .before .before .put-refusal .ensures))
+    let room = c .before .before .before .before .before .before .before in
+    let wrote = c .before .before .put-refusal .ensures in
+    let e = written _ _ _ _ _ (room .before .before .sizes-fit .ensures) (room .before .if1 .taken) _ _ (room .if2 .taken) wrote in
+    rw (c .before .before .before .before .before .fit .given .1) (e .0, e .1, within _ _ _ _ wrote)
 
 same-length-2 : tie.Need-same-length-2
 same-length-2 c = search needs
 
 returns-4 : tie.Need-returns-4
 returns-4 c =
-    let at-if1 = c .before .before .before .before .before .before .before .before in
-    let at-sizes-fit = at-if1 .before in
-    let e = written _ _ _ _ _ (at-sizes-fit .sizes-fit .ensures) (at-if1 .if1 .taken) _ _
-    (c .before .before .before .before .before .before .before .if2 .taken) (c .before .before .put-listing .ensures) in
-    rw (c .before .before .before .before .before .fit2 .given .1) (e .0, e .1, within _ _ _ _ (c .before .before .put-listing .ensures))
+    let room = c .before .before .before .before .before .before .before in
+    let wrote = c .before .before .put-listing .ensures in
+    let e = written _ _ _ _ _ (room .before .before .sizes-fit .ensures) (room .before .if1 .taken) _ _ (room .if2 .taken) wrote in
+    rw (c .before .before .before .before .before .fit2 .given .1) (e .0, e .1, within _ _ _ _ wrote)
 
 pub write-listing-spec : {M : Type 1} → statement M
 write-listing-spec =

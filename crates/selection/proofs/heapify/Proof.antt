@@ -25,13 +25,10 @@ slice-read-x : tie.Need-slice-read-x Inv-loop μ-loop
 slice-read-x c = search needs
 
 sink-requires : tie.Need-sink-requires Inv-loop μ-loop
-sink-requires c κs = (
-  search needs,
-  search needs,
-  c .before .before .before .loop .inv .known,
-  heaped-good (c .before .before .before .loop .inv) (c .before .before .loop-test .taken),
-  heaped-next (c .before .before .before .loop .inv) (c .before .before .loop-test .taken),
-)
+sink-requires c κs =
+    let test = c .before .before in
+    let inv = test .before .loop .inv in
+    (search needs, search needs, inv .known, heaped-good inv (test .loop-test .taken), heaped-next inv (test .loop-test .taken))
 
 loop-less : tie.Need-loop-less Inv-loop μ-loop
 loop-less c = search needs
@@ -39,9 +36,9 @@ loop-less c = search needs
 loop-again : tie.Need-loop-again Inv-loop μ-loop
 loop-again c =
     let sunk = c .before .before .sink in
-    let at-test = c .before .before .before .before .before in
-    heaped-turn (at-test .before .loop .inv) (at-test .loop-test .taken) (sunk .last .1 .0) (sunk .kept .1 .0) (sunk .ensures .0)
-    (sunk .ensures .1)
+    let test = c .before .before .before .before .before in
+    let turn = heaped-turn (test .before .loop .inv) (test .loop-test .taken) in
+    turn (sunk .last .1 .0) (sunk .kept .1 .0) (sunk .ensures .0) (sunk .ensures .1)
 
 same-length : tie.Need-same-length Inv-loop μ-loop
 same-length c = search needs

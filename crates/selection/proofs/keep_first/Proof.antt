@@ -1,6 +1,6 @@
 -- `keep_first`: the invariant is that the places filled hold the features with zero weight passed. Assumes nothing.
 use denote.Ref.{now}
-use Prim.Native.Nat.{_-_}
+use Prim.Native.Nat.{_-_, _<_}
 use lib.ListN.{length}
 use Rattle.selection.proofs.Laws.Select.{FirstAt, first-none, first-inside, first-turn, first-all}
 use borrow.Author.Needs.{needs}
@@ -17,42 +17,35 @@ abbrev μ-loop : tie.MeasureT-loop
 loop-holds : tie.Need-loop-holds Inv-loop μ-loop
 loop-holds c = let entry = c .before .before in first-none (now (entry .args .w)) (now (entry .args .kept))
 
+-- the feature that is looked at is one of the weights'
+inside : (c : tie.In-loop Inv-loop μ-loop) → c .before .loop .j < length (now (c .before .before .before .before .args .w))
+inside c = first-inside (c .before .loop .inv) (let e = c .loop-test .taken in search needs) (c .before .before .before .before .pre .1)
+
 mul-keep : tie.Need-mul-keep Inv-loop μ-loop
-mul-keep c =
-    let h = first-inside (c .before .loop .inv) (let e = c .loop-test .taken in search needs) (c .before .before .before .before .pre .1) in
-    search needs
+mul-keep c = let h = inside c in search needs
 
 shared-slice-read-keep : tie.Need-shared-slice-read-keep Inv-loop μ-loop
-shared-slice-read-keep c =
-    first-inside (c .before .before .loop .inv) (let e = c .before .loop-test .taken in search needs)
-    (c .before .before .before .before .before .pre .1)
+shared-slice-read-keep c = inside (c .before)
 
 keep-requires : tie.Need-keep-requires Inv-loop μ-loop
 keep-requires c κs =
-    let at-test = c .before .before in
-    let entry = at-test .before .before .before .before in
-    let room = entry .pre .0 in
-    let h = first-inside (at-test .before .loop .inv) (let e = at-test .loop-test .taken in search needs) (entry .pre .1) in
+    let room = c .before .before .before .before .before .before .pre .0 in
+    let h = inside (c .before .before) in
     (search needs, omega arith)
 
 add-j : tie.Need-add-j Inv-loop μ-loop
 add-j c = search needs
 
 loop-less : tie.Need-loop-less Inv-loop μ-loop
-loop-less c =
-    let at-test = c .before .before .before .before .before in
-    let h = first-inside (at-test .before .loop .inv) (let e = at-test .loop-test .taken in search needs)
-    (at-test .before .before .before .before .pre .1) in
-    search needs
+loop-less c = let h = inside (c .before .before .before .before .before) in search needs
 
 loop-again : tie.Need-loop-again Inv-loop μ-loop
 loop-again c =
     let kept = c .before .before .keep in
-    let at-test = c .before .before .before .before .before in
-    let inv = at-test .before .loop .inv in
-    let few = at-test .loop-test .taken in
-    let h = first-inside inv (search needs) (at-test .before .before .before .before .pre .1) in
-    first-turn inv (search needs) h (kept .result) (kept .last .1 .1 .1 .0) (kept .ensures .0) (kept .ensures .1) (kept .kept .1 .1 .1 .0)
+    let test = c .before .before .before .before .before in
+    let few = test .loop-test .taken in
+    let turn = first-turn (test .before .loop .inv) (search needs) (inside test) (kept .result) (kept .last .1 .1 .1 .0) in
+    turn (kept .ensures .0) (kept .ensures .1) (kept .kept .1 .1 .1 .0)
 
 same-length : tie.Need-same-length Inv-loop μ-loop
 same-length c = search needs

@@ -36,8 +36,8 @@ add-result c = let h = byte-most (c .ahead .result) in search needs
 returns : tie.Need-returns
 returns c =
     let entry = c .before .before .before .before .before .before in
-    last-two (features (now (entry .args .kkt))) (entry .pre .0) (c .ahead .result) (c .before .before .before .if1 .taken)
-    (c .ahead .ensures)
+    let order = features (now (entry .args .kkt)) in
+    last-two order (entry .pre .0) (c .ahead .result) (c .before .before .before .if1 .taken) (c .ahead .ensures)
 
 returns-2 : tie.Need-returns-2
 returns-2 c = let entry = c .before .before .before in last-only (features (now (entry .args .kkt))) (entry .pre .0) (c .if1 .left)

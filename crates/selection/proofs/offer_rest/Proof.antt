@@ -14,7 +14,8 @@ abbrev μ-loop : tie.MeasureT-loop
 
 loop-holds : tie.Need-loop-holds Inv-loop μ-loop
 loop-holds c =
-    let entry = c .before .before .before in rest-none (entry .pre .2) (entry .pre .5) (entry .pre .4) (entry .pre .6) (entry .pre .7)
+    let entry = c .before .before .before in
+    rest-none (entry .pre .2) (entry .pre .5) (entry .pre .4) (entry .pre .6) (entry .pre .7)
 
 sub-j : tie.Need-sub-j Inv-loop μ-loop
 sub-j c = search needs
@@ -50,12 +51,11 @@ loop-less c = search needs
 loop-again : tie.Need-loop-again Inv-loop μ-loop
 loop-again c =
     let offered = c .before .before .offer in
-    let at-test = c .before .before .before .before .before in
-    let from = at-test .loop-test .taken in
-    let entry = at-test .before .before .before .before .before in
-    rest-turn (entry .pre .2) (entry .pre .5) (entry .pre .0) (at-test .before .loop .inv) (at-test .before .loop .j - 1) (omega arith)
-    (at-test .loop-test .taken)
-    (offered .last .1 .1 .0) (offered .kept .1 .1 .0) (offered .ensures .0) (offered .ensures .1)
+    let test = c .before .before .before .before .before in
+    let from = test .loop-test .taken in
+    let entry = test .before .before .before .before .before in
+    let turn = rest-turn (entry .pre .2) (entry .pre .5) (entry .pre .0) (test .before .loop .inv) (test .before .loop .j - 1) (omega arith) from in
+    turn (offered .last .1 .1 .0) (offered .kept .1 .1 .0) (offered .ensures .0) (offered .ensures .1)
 
 same-length : tie.Need-same-length Inv-loop μ-loop
 same-length c = search needs

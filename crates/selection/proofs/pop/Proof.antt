@@ -32,16 +32,17 @@ slice-relend-prefix-sink : tie.Need-slice-relend-prefix-sink
 slice-relend-prefix-sink c =
     let entry = c .before .before .before .before in
     let two = entry .pre .0 in
-    pop-end (features (now (entry .args .kkt))) (length (now (entry .args .kept)) - 1) (entry .pre .2) (entry .pre .3) (omega arith)
-    (omega arith)
+    let order = features (now (entry .args .kkt)) in
+    let end = length (now (entry .args .kept)) - 1 in
+    pop-end order end (entry .pre .2) (entry .pre .3) (omega arith) (omega arith)
 
 slice-aggregate-sink : tie.Need-slice-aggregate-sink
 slice-aggregate-sink c =
     let entry = c .before .before .before .before .before in
     let two = entry .pre .0 in
-    sym
-    (front-long (features (now (entry .args .kkt))) (length (now (entry .args .kept)) - 1) (entry .pre .2) (entry .pre .3) (omega arith)
-    (omega arith))
+    let order = features (now (entry .args .kkt)) in
+    let end = length (now (entry .args .kept)) - 1 in
+    sym (front-long order end (entry .pre .2) (entry .pre .3) (omega arith) (omega arith))
 
 sink-requires : tie.Need-sink-requires
 sink-requires c κs =
@@ -62,10 +63,10 @@ same-length : tie.Need-same-length
 same-length c =
     let entry = c .before .before .before .before .before .before .before .before in
     let two = entry .pre .0 in
+    let order = features (now (entry .args .kkt)) in
+    let end = length (now (entry .args .kept)) - 1 in
     let sunk = c .before .before .sink in
-    pop-long (features (now (entry .args .kkt))) (length (now (entry .args .kept)) - 1) (entry .pre .2) (entry .pre .3) (omega arith)
-    (omega arith)
-    (sunk .last .1 .0) (sunk .kept .1 .0)
+    pop-long order end (entry .pre .2) (entry .pre .3) (omega arith) (omega arith) (sunk .last .1 .0) (sunk .kept .1 .0)
 
 returns : tie.Need-returns
 returns c =
@@ -76,8 +77,7 @@ returns c =
     let known = entry .pre .2 in
     let heap = entry .pre .3 in
     let sunk = c .before .before .sink in (
-      pop-front order end known heap (omega arith) (omega arith) (sunk .last .1 .0) (sunk .kept .1 .0) (sunk .ensures .1)
-          (sunk .ensures .0),
+      pop-front order end known heap (omega arith) (omega arith) (sunk .last .1 .0) (sunk .kept .1 .0) (sunk .ensures .1) (sunk .ensures .0),
       pop-ends order end known heap (omega arith) (omega arith) (sunk .last .1 .0) (sunk .kept .1 .0) (sunk .ensures .1),
       pop-same order end known heap (omega arith) (omega arith) (sunk .last .1 .0) (sunk .kept .1 .0) (sunk .ensures .1),
     )

@@ -1,6 +1,7 @@
 -- `rank`: the first with zero weight, made a heap, which is offered the rest and then put in order. Assumes nothing.
 use denote.Ref.{now}
 use mathlib.Core.Path.{_≡_, _∙_}
+use Prim.Native.Nat.{_≤_}
 use lib.ListN.{length}
 use Rattle.doubles.proofs.Laws.Counts.{same-trans}
 use Rattle.selection.proofs.Laws.Select.{room-few, room-left, first-known, chosen-known, chosen-first, chosen-none}
@@ -8,6 +9,10 @@ use borrow.Author.Needs.{needs}
 use native.Mathlib.Omega.{arith}
 use Rattle.selection.proofs.rank.Statement.{statement}
 use Rattle.selection.proofs.rank.Tie as tie
+
+-- what is ranked is no longer than 8192
+few : (c : tie.Start) → length (now (c .args .ranked)) ≤ 8192
+few c = room-few (now (c .args .kkt)) (now (c .args .w)) (length (now (c .args .ranked))) 8192 (c .pre .2) (c .pre .1)
 
 keep-first-requires : tie.Need-keep-first-requires
 keep-first-requires c κs =
@@ -18,12 +23,11 @@ heapify-requires : tie.Need-heapify-requires
 heapify-requires c κs =
     let at-first = c .before .before .before in
     let entry = at-first .before .before .before .before .before .before in
-    let few = room-few (now (entry .args .kkt)) (now (entry .args .w)) (length (now (entry .args .ranked))) 8192 (entry .pre .2)
-    (entry .pre .1) in
-    let long = at-first .keep-first .kept .1 .0 in (
+    let most = few entry in
+    let first = at-first .keep-first in
+    let long = first .kept .1 .0 in (
       omega arith,
-      first-known (entry .pre .0) (entry .pre .3) (at-first .keep-first .ensures .0)
-          (at-first .keep-first .ensures .1 (now (entry .args .kkt))),
+      first-known (entry .pre .0) (entry .pre .3) (first .ensures .0) (first .ensures .1 (now (entry .args .kkt))),
     )
 
 offer-rest-requires : tie.Need-offer-rest-requires
@@ -35,8 +39,7 @@ offer-rest-requires c κs =
     let first = at-first .keep-first in
     let made = at-heap .heapify in
     let some = at-some .if1 .taken in
-    let few = room-few (now (entry .args .kkt)) (now (entry .args .w)) (length (now (entry .args .ranked))) 8192 (entry .pre .2)
-    (entry .pre .1) in
+    let most = few entry in
     let long = first .kept .1 .0 in
     let long' = made .kept .1 .0 in (
       omega arith,
@@ -55,8 +58,7 @@ sort-requires c κs =
     let at-heap = at-rest .before .before .before .before in
     let at-first = at-heap .before .before .before .before in
     let entry = at-first .before .before .before .before .before .before in
-    let few = room-few (now (entry .args .kkt)) (now (entry .args .w)) (length (now (entry .args .ranked))) 8192 (entry .pre .2)
-    (entry .pre .1) in
+    let most = few entry in
     let long = at-first .keep-first .kept .1 .0 in
     let long' = at-heap .heapify .kept .1 .0 in
     let long'' = at-rest .offer-rest .kept .1 .1 .0 in

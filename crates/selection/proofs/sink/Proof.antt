@@ -18,7 +18,8 @@ below-requires c κs = let entry = c .before .before .before in (entry .pre .0, 
 
 loop-holds : tie.Need-loop-holds Inv-loop μ-loop
 loop-holds c =
-    let entry = c .before .before .before .before in sunk-none (entry .pre .0) (entry .pre .2) (entry .pre .4) (c .below .ensures)
+    let entry = c .before .before .before .before in
+    sunk-none (entry .pre .0) (entry .pre .2) (entry .pre .4) (c .below .ensures)
 
 mul-kept : tie.Need-mul-kept Inv-loop μ-loop
 mul-kept c = let h = sunk-inside (c .before .loop .inv) (c .loop-test .taken) in search needs
@@ -44,8 +45,8 @@ loop-less c = sunk-less (c .before .before .before .before .loop .inv) (c .befor
 
 loop-again : tie.Need-loop-again Inv-loop μ-loop
 loop-again c =
-    sunk-turn (c .before .before .before .before .loop .inv) (c .before .before .before .loop-test .taken) (c .below2 .result)
-    (c .below2 .ensures)
+    let test = c .before .before .before in
+    sunk-turn (test .before .loop .inv) (test .loop-test .taken) (c .below2 .result) (c .below2 .ensures)
 
 mul-kept-3 : tie.Need-mul-kept-3 Inv-loop μ-loop
 mul-kept-3 c = search needs

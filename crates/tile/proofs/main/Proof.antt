@@ -1,6 +1,8 @@
 -- `main` is safe and ends: what was written lies within the buffer. Assumes nothing.
 use mathlib.Core.Path.{sym}
+use Prim.Native.Nat.{_≤_}
 use native.Mathlib.Nat.{le-of-eq, le-trans}
+use lib.ListN.{length}
 use lib.Seq.{length-take-le}
 use borrow.Author.Needs.{needs}
 use Rattle.tile.proofs.main.Statement.{statement}
@@ -33,18 +35,17 @@ enum-told c = search needs
 enum-known-n : tie.Need-enum-known-n
 enum-known-n c = search needs
 
+-- what was written fits into the buffer
+fits : (c : tie.After-n) → c .n .given .0 .0 ≤ length (c .before .before .before .answer .last .1 .0)
+fits c =
+    let answer = c .before .before .before .answer in
+    le-trans (rw (c .n .given .1) at (answer .ensures .2)) (le-of-eq (sym (answer .kept .1 .0)))
+
 array-share-prefix-out : tie.Need-array-share-prefix-out
-array-share-prefix-out c =
-    let at-answer = c .before .before .before .before in
-    le-trans (rw (c .before .n .given .1) at (at-answer .answer .ensures .2)) (le-of-eq (sym (at-answer .answer .kept .1 .0)))
+array-share-prefix-out c = fits (c .before)
 
 slice-aggregate-write-all : tie.Need-slice-aggregate-write-all
-slice-aggregate-write-all c =
-    let at-answer = c .before .before .before .before .before in
-    sym
-    (length-take-le _ _
-    (le-trans (rw (c .before .before .n .given .1) at (at-answer .answer .ensures .2))
-    (le-of-eq (sym (at-answer .answer .kept .1 .0)))))
+slice-aggregate-write-all c = sym (length-take-le _ _ (fits (c .before .before)))
 
 write-all-requires : tie.Need-write-all-requires
 write-all-requires c κs = search needs

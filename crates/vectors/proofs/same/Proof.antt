@@ -72,7 +72,8 @@ data Zero : Float → Type 0 where
 
 written : (s : Bool) (e : ℤ) → T (fits binary64 (fin s zero e)) → fin s zero (pos zero) ≡ fin s zero e
 written s e f =
-    let k : fin false zero e ≡ fin false zero (pos zero) = zero-is binary64 (fin false zero e) (unfold fits in f) (unfold negzero in refl) (unfold nonzero in refl) in
+    let k : fin false zero e ≡ fin false zero (pos zero) =
+    zero-is binary64 (fin false zero e) (unfold fits in f) (unfold negzero in refl) (unfold nonzero in refl) in
     cc
 
 zero-form : (x : Float) → T (fits binary64 x) → ne x #0 ≡ false → Zero x
@@ -99,10 +100,8 @@ returns c = (λ k. none _ (sym (ne-self _) ∙ c .if1 .taken) ∙ sym (none _ (s
 returns-2 : tie.Need-returns-2
 returns-2 c =
     let g = c .before .before .good in (
-      λ k.
-          numbers _ _ (holds (g .0 .1)) (holds (g .1 .0 .1)) (c .if2 .taken) (holds k),
-      λ e. rw (← e)
-          (not-false _ (unfold ne in c .before .if1 .left)),
+      λ k. numbers _ _ (holds (g .0 .1)) (holds (g .1 .0 .1)) (c .if2 .taken) (holds k),
+      λ e. rw (← e) (not-false _ (unfold ne in c .before .if1 .left)),
     )
 
 returns-3 : tie.Need-returns-3

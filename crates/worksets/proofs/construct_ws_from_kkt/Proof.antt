@@ -148,9 +148,10 @@ returns-5 c =
     let at-range = at-room .before .before in
     let at-lengths = at-range .before .before in
     let entry = at-lengths .before .before .before .before in
-    answered-as (now (entry .args .kkt)) (now (entry .args .w)) (entry .args .start) (now (entry .args .indices)) _ _ (built .ensures .0)
-    (put-front (now (entry .args .indices)) (length (now (entry .args .w))) (built .last .1 .1 .1 .0) _ (at-room .if3 .taken)
-    (built .kept .1 .1 .1 .0) (built .ensures .1))
+    let w = now (entry .args .w) in
+    let lent = now (entry .args .indices) in
+    let placed = put-front lent (length w) (built .last .1 .1 .1 .0) _ (at-room .if3 .taken) (built .kept .1 .1 .1 .0) (built .ensures .1) in
+    answered-as (now (entry .args .kkt)) w (entry .args .start) lent _ _ (built .ensures .0) placed
     (rw (
       ← at-lengths .lengths-agree .ensures,
       at-range .before .if1 .taken,

@@ -46,13 +46,13 @@ loop-less : tie.Need-loop-less Inv-loop μ-loop
 loop-less c = search needs
 
 loop-again : tie.Need-loop-again Inv-loop μ-loop
-loop-again c = (
-  search needs,
-  search needs,
-  rw (c .before .before .loop .inv .2)
-      (put-more _ (now (c .before .before .before .before .before .args .buf)) (c .before .before .before .before .before .args .to)
-      (c .before .before .loop .i) nan (search needs) _ (c .f64-at .ensures)),
-)
+loop-again c =
+    let entry = c .before .before .before .before .before in (
+      search needs,
+      search needs,
+      rw (c .before .before .loop .inv .2)
+          (put-more _ (now (entry .args .buf)) (entry .args .to) (c .before .before .loop .i) nan (search needs) _ (c .f64-at .ensures)),
+    )
 
 same-length : tie.Need-same-length Inv-loop μ-loop
 same-length c = search needs

@@ -31,8 +31,8 @@ returns : tie.Need-returns
 returns c =
     let behind = c .before .before .before .before .before in
     let spelt = behind .hex .ensures in
-    rw (hex-is _ _ _ (omega arith) (spelt .1 .0) (spelt .1 .1) ∙ ap hex16 (behind .before .before .bits-of .ensures)) at
-    (c .before .before .put-text .ensures)
+    let digits = hex-is _ _ _ (omega arith) (spelt .1 .0) (spelt .1 .1) ∙ ap hex16 (behind .before .before .bits-of .ensures) in
+    rw digits at (c .before .before .put-text .ensures)
 
 pub put-bits-spec : {M : Type 1} → statement M
 put-bits-spec =

@@ -12,15 +12,15 @@ put-text-requires c κs = room-first _ _ (c .before .before .before .pre)
 put-bits-requires : tie.Need-put-bits-requires
 unfolding bitsLine
 put-bits-requires c κs =
-    room-first _ _
-    (room-next _ _ (c .before .before .before .before .before .before .before .pre) (c .before .before .before .put-text .ensures))
+    let name = c .before .before .before in
+    room-first _ _ (room-next _ _ (name .before .before .before .before .pre) (name .put-text .ensures))
 
 end-line-requires : tie.Need-end-line-requires
 unfolding bitsLine
 end-line-requires c κs =
-    let entry = c .before .before .before .before .before .before .before .before .before .before .before in
-    room-next _ _ (room-next _ _ (entry .pre) (c .before .before .before .before .before .before .before .put-text .ensures))
-    (c .before .before .before .put-bits .ensures)
+    let name = c .before .before .before .before .before .before .before in
+    let behind = room-next _ _ (name .before .before .before .before .pre) (name .put-text .ensures) in
+    room-next _ _ behind (c .before .before .before .put-bits .ensures)
 
 same-length : tie.Need-same-length
 same-length c = search needs
@@ -28,9 +28,9 @@ same-length c = search needs
 returns : tie.Need-returns
 unfolding bitsLine
 returns c =
-    let at-put-text = c .before .before .before .before .before .before .before .before .before .before in
-    wrote-both (at-put-text .put-text .ensures)
-    (wrote-both (c .before .before .before .before .before .before .put-bits .ensures) (c .before .before .end-line .ensures))
+    let digits = c .before .before .before .before .before .before in
+    let rest = wrote-both (digits .put-bits .ensures) (c .before .before .end-line .ensures) in
+    wrote-both (digits .before .before .before .before .put-text .ensures) rest
 
 pub put-bits-line-spec : {M : Type 1} → statement M
 put-bits-line-spec =

@@ -16,18 +16,16 @@ slice-aggregate-put-text c = search needs
 
 put-text-requires : tie.Need-put-text-requires
 put-text-requires c κs =
-    rw (decimal-is _ _ _ (omega arith) (c .before .before .decimal .ensures .1 .0) (c .before .before .decimal .ensures .1 .1))
-    (c .before .before .before .before .before .pre)
+    let spelt = c .before .before .decimal .ensures in
+    rw (decimal-is _ _ _ (omega arith) (spelt .1 .0) (spelt .1 .1)) (c .before .before .before .before .before .pre)
 
 same-length : tie.Need-same-length
 same-length c = search needs
 
 returns : tie.Need-returns
 returns c =
-    rw
-    (decimal-is _ _ _ (omega arith) (c .before .before .before .before .before .decimal .ensures .1 .0)
-    (c .before .before .before .before .before .decimal .ensures .1 .1))
-    at (c .before .before .put-text .ensures)
+    let spelt = c .before .before .before .before .before .decimal .ensures in
+    rw (decimal-is _ _ _ (omega arith) (spelt .1 .0) (spelt .1 .1)) at (c .before .before .put-text .ensures)
 
 pub put-decimal-spec : {M : Type 1} → statement M
 put-decimal-spec =

@@ -26,8 +26,8 @@ shared-slice-read-put-entry-line c = search needs
 
 put-entry-line-requires : tie.Need-put-entry-line-requires Inv-loop μ-loop
 put-entry-line-requires c κs =
-    lines-room _ _ _ (c .before .before .before .before .before .before .before .pre) _ (c .before .before .before .loop .inv .2)
-    (c .before .before .loop-test .taken)
+    let test = c .before .before in
+    lines-room _ _ _ (test .before .before .before .before .before .pre) _ (test .before .loop .inv .2) (test .loop-test .taken)
 
 add-i : tie.Need-add-i Inv-loop μ-loop
 add-i c = search needs
@@ -36,12 +36,10 @@ loop-less : tie.Need-loop-less Inv-loop μ-loop
 loop-less c = search needs
 
 loop-again : tie.Need-loop-again Inv-loop μ-loop
-loop-again c = (
-  search needs,
-  search needs,
-  lines-turn _ _ _ (c .before .before .before .before .before .before .before .before .before .before .pre) _
-      (c .before .before .before .before .before .before .loop .inv .2) (c .before .before .put-entry-line .ensures),
-)
+loop-again c =
+    let test = c .before .before .before .before .before in
+    let entry = test .before .before .before .before .before in
+    (search needs, search needs, lines-turn _ _ _ (entry .pre) _ (test .before .loop .inv .2) (c .before .before .put-entry-line .ensures))
 
 same-length : tie.Need-same-length Inv-loop μ-loop
 same-length c = search needs

@@ -15,8 +15,8 @@ slice-aggregate-put-entry-lines c = search needs
 put-entry-lines-requires : tie.Need-put-entry-lines-requires
 unfolding listing codes
 put-entry-lines-requires c κs =
-    let entry = c .before .before .before .before .before .before .before .before .before in
-    room-first _ _ (room-next _ _ (entry .pre) (c .before .before .before .before .put-report .ensures))
+    let report = c .before .before .before .before in
+    room-first _ _ (room-next _ _ (report .before .before .before .before .before .pre) (report .put-report .ensures))
 
 slice-aggregate-put-entry-lines-2 : tie.Need-slice-aggregate-put-entry-lines-2
 slice-aggregate-put-entry-lines-2 c = search needs
@@ -24,10 +24,9 @@ slice-aggregate-put-entry-lines-2 c = search needs
 put-entry-lines-requires-2 : tie.Need-put-entry-lines-requires-2
 unfolding listing codes
 put-entry-lines-requires-2 c κs =
-    let at-put-report = c .before .before .before .before .before .before .before .before .before in
-    let entry = at-put-report .before .before .before .before .before in
-    room-next _ _ (room-next _ _ (entry .pre) (at-put-report .put-report .ensures))
-    (c .before .before .before .before .put-entry-lines .ensures)
+    let weights = c .before .before .before .before in
+    let report = weights .before .before .before .before .before in
+    room-next _ _ (room-next _ _ (report .before .before .before .before .before .pre) (report .put-report .ensures)) (weights .put-entry-lines .ensures)
 
 same-length : tie.Need-same-length
 same-length c = search needs
@@ -35,10 +34,9 @@ same-length c = search needs
 returns : tie.Need-returns
 unfolding listing codes
 returns c =
-    let at-put-report = c .before .before .before .before .before .before .before .before .before .before .before .before in
-    wrote-both (at-put-report .put-report .ensures)
-    (wrote-both (c .before .before .before .before .before .before .before .put-entry-lines .ensures)
-    (c .before .before .put-entry-lines2 .ensures))
+    let weights = c .before .before .before .before .before .before .before in
+    let rest = wrote-both (weights .put-entry-lines .ensures) (c .before .before .put-entry-lines2 .ensures) in
+    wrote-both (weights .before .before .before .before .before .put-report .ensures) rest
 
 pub put-listing-spec : {M : Type 1} → statement M
 put-listing-spec =

@@ -21,8 +21,8 @@ slice-aggregate-put-bits-line c = search needs
 put-bits-line-requires : tie.Need-put-bits-line-requires
 unfolding reportLines codes
 put-bits-line-requires c κs =
-    let entry = c .before .before .before .before .before .before .before .before .before in
-    room-first _ _ (room-next _ _ (entry .pre) (c .before .before .before .before .put-count-line .ensures))
+    let first = c .before .before .before .before in
+    room-first _ _ (room-next _ _ (first .before .before .before .before .before .pre) (first .put-count-line .ensures))
 
 slice-aggregate-put-count-line-2 : tie.Need-slice-aggregate-put-count-line-2
 slice-aggregate-put-count-line-2 c = search needs
@@ -30,11 +30,10 @@ slice-aggregate-put-count-line-2 c = search needs
 put-count-line-requires-2 : tie.Need-put-count-line-requires-2
 unfolding reportLines codes
 put-count-line-requires-2 c κs =
-    let at-put-count-line = c .before .before .before .before .before .before .before .before .before in
-    let entry = at-put-count-line .before .before .before .before .before in
-    room-first _ _
-    (room-next _ _ (room-next _ _ (entry .pre) (at-put-count-line .put-count-line .ensures))
-    (c .before .before .before .before .put-bits-line .ensures))
+    let second = c .before .before .before .before in
+    let first = second .before .before .before .before .before in
+    let behind = room-next _ _ (first .before .before .before .before .before .pre) (first .put-count-line .ensures) in
+    room-first _ _ (room-next _ _ behind (second .put-bits-line .ensures))
 
 slice-aggregate-put-count-line-3 : tie.Need-slice-aggregate-put-count-line-3
 slice-aggregate-put-count-line-3 c = search needs
@@ -42,14 +41,12 @@ slice-aggregate-put-count-line-3 c = search needs
 put-count-line-requires-3 : tie.Need-put-count-line-requires-3
 unfolding reportLines codes
 put-count-line-requires-3 c κs =
-    let at-put-bits-line = c .before .before .before .before .before .before .before .before .before in
-    let at-put-count-line = at-put-bits-line .before .before .before .before .before in
-    let entry = at-put-count-line .before .before .before .before .before in
-    room-first _ _
-    (room-next _ _
-    (room-next _ _ (room-next _ _ (entry .pre) (at-put-count-line .put-count-line .ensures))
-    (at-put-bits-line .put-bits-line .ensures))
-    (c .before .before .before .before .put-count-line2 .ensures))
+    let third = c .before .before .before .before in
+    let second = third .before .before .before .before .before in
+    let first = second .before .before .before .before .before in
+    let behind = room-next _ _ (first .before .before .before .before .before .pre) (first .put-count-line .ensures) in
+    let behind-two = room-next _ _ behind (second .put-bits-line .ensures) in
+    room-first _ _ (room-next _ _ behind-two (third .put-count-line2 .ensures))
 
 slice-aggregate-put-count-line-4 : tie.Need-slice-aggregate-put-count-line-4
 slice-aggregate-put-count-line-4 c = search needs
@@ -57,16 +54,14 @@ slice-aggregate-put-count-line-4 c = search needs
 put-count-line-requires-4 : tie.Need-put-count-line-requires-4
 unfolding reportLines codes
 put-count-line-requires-4 c κs =
-    let at-put-count-line2 = c .before .before .before .before .before .before .before .before .before in
-    let at-put-bits-line = at-put-count-line2 .before .before .before .before .before in
-    let at-put-count-line = at-put-bits-line .before .before .before .before .before in
-    let entry = at-put-count-line .before .before .before .before .before in
-    room-next _ _
-    (room-next _ _
-    (room-next _ _ (room-next _ _ (entry .pre) (at-put-count-line .put-count-line .ensures))
-    (at-put-bits-line .put-bits-line .ensures))
-    (at-put-count-line2 .put-count-line2 .ensures))
-    (c .before .before .before .before .put-count-line3 .ensures)
+    let fourth = c .before .before .before .before in
+    let third = fourth .before .before .before .before .before in
+    let second = third .before .before .before .before .before in
+    let first = second .before .before .before .before .before in
+    let behind = room-next _ _ (first .before .before .before .before .before .pre) (first .put-count-line .ensures) in
+    let behind-two = room-next _ _ behind (second .put-bits-line .ensures) in
+    let behind-three = room-next _ _ behind-two (third .put-count-line2 .ensures) in
+    room-next _ _ behind-three (fourth .put-count-line3 .ensures)
 
 same-length : tie.Need-same-length
 same-length c = search needs
@@ -74,14 +69,12 @@ same-length c = search needs
 returns : tie.Need-returns
 unfolding reportLines codes
 returns c =
-    let at-put-count-line2 = c .before .before .before .before .before .before .before .before .before .before .before .before in
-    let at-put-bits-line = at-put-count-line2 .before .before .before .before .before in
-    let at-put-count-line = at-put-bits-line .before .before .before .before .before in
-    wrote-both (at-put-count-line .put-count-line .ensures)
-    (wrote-both (at-put-bits-line .put-bits-line .ensures)
-    (wrote-both (at-put-count-line2 .put-count-line2 .ensures)
-    (wrote-both (c .before .before .before .before .before .before .before .put-count-line3 .ensures)
-    (c .before .before .put-count-line4 .ensures))))
+    let fourth = c .before .before .before .before .before .before .before in
+    let third = fourth .before .before .before .before .before in
+    let second = third .before .before .before .before .before in
+    let last-two = wrote-both (fourth .put-count-line3 .ensures) (c .before .before .put-count-line4 .ensures) in
+    let last-three = wrote-both (third .put-count-line2 .ensures) last-two in
+    wrote-both (second .before .before .before .before .before .put-count-line .ensures) (wrote-both (second .put-bits-line .ensures) last-three)
 
 pub put-report-spec : {M : Type 1} → statement M
 put-report-spec =

@@ -12,7 +12,9 @@ use Rattle.listings.proofs.inner.put_text.Statement.{statement}
 use Rattle.listings.proofs.inner.put_text.Tie as tie
 
 abbrev Inv-loop : tie.InvT-loop
-Inv-loop text out₀ at k₀ out k = (k ≤ length text) × (at + length text ≤ length out₀) × (length out ≡ length out₀) × (out ≡ put out₀ at (tab (λ i. getD text i 0) k))
+Inv-loop text out₀ at k₀ out k =
+    (k ≤ length text) × (at + length text ≤ length out₀) × (length out ≡ length out₀)
+    × (out ≡ put out₀ at (tab (λ i. getD text i 0) k))
 
 abbrev μ-loop : tie.MeasureT-loop
 μ-loop text out₀ at k₀ out k = length text - k

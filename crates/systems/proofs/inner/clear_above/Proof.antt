@@ -30,8 +30,7 @@ loop-less c = omega arith
 loop-again : tie.Need-loop-again Inv-loop μ-loop
 loop-again c = (
   omega arith,
-  c .clear-row .ensures ∙ downward-more _ _ _ _ _ (c .before .loop-test .taken) (c .before .before .loop .inv .0)
-      (c .before .before .loop .inv .1),
+  c .clear-row .ensures ∙ downward-more _ _ _ _ _ (c .before .loop-test .taken) (c .before .before .loop .inv .0) (c .before .before .loop .inv .1),
 )
 
 returns : tie.Need-returns Inv-loop μ-loop

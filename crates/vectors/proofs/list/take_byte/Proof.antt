@@ -17,8 +17,7 @@ enum-known-fed c = search needs
 go-on-requires : tie.Need-go-on-requires
 go-on-requires c κs = (
   search needs,
-  subst (λ (f : Fed). countOf f ≤ 1024) (c .before .fed .given .1)
-      (omega (arith, c .before .before .before .feed .ensures (search needs))),
+  subst (λ (f : Fed). countOf f ≤ 1024) (c .before .fed .given .1) (omega (arith, c .before .before .before .feed .ensures (search needs))),
 )
 
 enum-known-fed-2 : tie.Need-enum-known-fed-2
@@ -27,8 +26,7 @@ enum-known-fed-2 c = search needs
 line-ended-requires : tie.Need-line-ended-requires
 line-ended-requires c κs = (
   search needs,
-  subst (λ (f : Fed). countOf f ≤ 1024) (c .before .fed2 .given .1)
-      (omega (arith, c .before .before .before .feed .ensures (search needs))),
+  subst (λ (f : Fed). countOf f ≤ 1024) (c .before .fed2 .given .1) (omega (arith, c .before .before .before .feed .ensures (search needs))),
 )
 
 enum-told : tie.Need-enum-told

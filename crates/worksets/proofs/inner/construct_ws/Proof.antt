@@ -1,6 +1,7 @@
 -- `construct_ws`: the support, then the others behind it, lent the places up to the size. Assumes nothing.
 use denote.Ref.{now}
-use mathlib.Core.Path.{ap, _∙_}
+use mathlib.Core.Path.{_≡_, ap, _∙_}
+use Prim.Native.Nat.{_≤_}
 use lib.ListN.{length}
 use Rattle.doubles.specs.Steps.{tab}
 use Rattle.worksets.proofs.Laws.Sets.{support-few}
@@ -10,92 +11,84 @@ use native.Mathlib.Omega.{arith}
 use Rattle.worksets.proofs.inner.construct_ws.Statement.{statement}
 use Rattle.worksets.proofs.inner.construct_ws.Tie as tie
 
+-- ---- what is known behind the support, and behind the size
+abbrev entry : tie.After-support → tie.Start
+entry c = c .before .before .before .before .before .before .before .before .before
+
+-- the lent places are as many as the weights
+long : (c : tie.After-support) → length (c .support .last .1 .0) ≡ length (now (entry c .args .w))
+long c = c .support .kept .1 .0 ∙ c .before .before .before .before .clear-indices .kept .0 ∙ entry c .pre .3
+
+-- the size lies between the support's and the number of weights
+between : (c : tie.After-size) → let found = c .before .before .before in
+    (found .support .result ≤ c .size .result) × (c .size .result ≤ length (now (entry found .args .w)))
+between c =
+    let found = c .before .before .before in
+    let a = entry found .args in
+    let within = bounds (a .start) (now (a .kkt)) (now (a .w)) (found .support .result) (c .size .result) in
+    within (entry found .pre .2) (found .support .ensures .0) (c .size .ensures)
+
+-- ---- the needs
 clear-indices-requires : tie.Need-clear-indices-requires
 clear-indices-requires c κs = search needs
 
 support-requires : tie.Need-support-requires
 support-requires c κs =
-    let at-there = c .before .before .before .before .before .before .before .before in
-    let entry = at-there in
-    (c .before .before .before .clear-indices .ensures ∙ ap (tab (λ k. 0)) (entry .pre .3), entry .pre .1)
+    let start = c .before .before .before .before .before .before .before .before in
+    (c .before .before .before .clear-indices .ensures ∙ ap (tab (λ k. 0)) (start .pre .3), start .pre .1)
 
 size-requires : tie.Need-size-requires
 size-requires c κs =
-    let entry = c .before .before .before .before .before .before .before .before .before .before .before in
-    let few = support-few (now (entry .args .w)) (length (now (entry .args .w))) in
-    let many = c .before .before .support .ensures .0 in
-    let most = entry .pre .1 in
+    let found = c .before .before in
+    let start = entry found in
+    let few = support-few (now (start .args .w)) (length (now (start .args .w))) in
+    let many = found .support .ensures .0 in
+    let most = start .pre .1 in
     omega arith
 
 mul-rank : tie.Need-mul-rank
 mul-rank c =
-    let at-support = c .before .before .before in
-    let entry = at-support .before .before .before .before .before .before .before .before .before in
-    let e =
-    bounds (entry .args .start) (now (entry .args .kkt)) (now (entry .args .w)) (at-support .support .result) (c .size .result)
-    (entry .pre .2) (at-support .support .ensures .0) (c .size .ensures) in
-    let low = e .0 in
-    let high = e .1 in
-    let most = entry .pre .1 in
+    let low = between c .0 in
+    let high = between c .1 in
+    let most = entry (c .before .before .before) .pre .1 in
     search needs
 
 sub-rank : tie.Need-sub-rank
-sub-rank c =
-    let at-support = c .before .before .before in
-    let entry = at-support .before .before .before .before .before .before .before .before .before in
-    bounds (entry .args .start) (now (entry .args .kkt)) (now (entry .args .w)) (at-support .support .result) (c .size .result)
-    (entry .pre .2) (at-support .support .ensures .0) (c .size .ensures) .0
+sub-rank c = between c .0
 
 part-rank-start : tie.Need-part-rank-start
-part-rank-start c =
-    let at-support = c .before .before .before in
-    let entry = at-support .before .before .before .before .before .before .before .before .before in
-    bounds (entry .args .start) (now (entry .args .kkt)) (now (entry .args .w)) (at-support .support .result) (c .size .result)
-    (entry .pre .2) (at-support .support .ensures .0) (c .size .ensures) .0
+part-rank-start c = between c .0
 
 part-rank-end : tie.Need-part-rank-end
 part-rank-end c =
-    let at-support = c .before .before .before in
-    let at-clear = at-support .before .before .before .before in
-    let entry = at-clear .before .before .before .before .before in
-    let high =
-    bounds (entry .args .start) (now (entry .args .kkt)) (now (entry .args .w)) (at-support .support .result) (c .size .result)
-    (entry .pre .2) (at-support .support .ensures .0) (c .size .ensures) .1 in
-    let long = at-support .support .kept .1 .0 in
-    let long' = at-clear .clear-indices .kept .0 in
-    let room = entry .pre .3 in
+    let high = between c .1 in
+    let places = long (c .before .before .before) in
     omega arith
 
 rank-requires : tie.Need-rank-requires
 rank-requires c κs =
-    let at-support = c .before .before .before .before in
-    let at-clear-indices = at-support .before .before .before .before in
-    let entry = at-clear-indices .before .before .before .before .before in (
-      entry .pre .0,
-      entry .pre .1,
-      rank-room (entry .args .start) (now (entry .args .kkt)) (now (entry .args .w)) (at-support .support .result) (c .before .size .result)
-          (entry .pre .2) (at-support .support .ensures .0) (c .before .size .ensures) (at-support .support .last .1 .0)
-          (at-support .support .kept .1 .0 ∙ at-clear-indices .clear-indices .kept .0 ∙ entry .pre .3),
-      entry .pre .4,
-    )
+    let found = c .before .before .before .before in
+    let start = entry found in
+    let a = start .args in
+    let room = rank-room (a .start) (now (a .kkt)) (now (a .w)) (found .support .result) (c .before .size .result) in
+    let left = room (start .pre .2) (found .support .ensures .0) (c .before .size .ensures) (found .support .last .1 .0) (long found) in
+    (start .pre .0, start .pre .1, left, start .pre .4)
 
 same-length : tie.Need-same-length
 same-length c = search needs
 
 returns : tie.Need-returns
 returns c =
-    let at-size = c .before .before .before .before in
-    let at-support = at-size .before .before .before in
-    let at-clear-indices = at-support .before .before .before .before in
-    let entry = at-clear-indices .before .before .before .before .before in (
-      sized (entry .args .start) (now (entry .args .kkt)) (now (entry .args .w)) (at-support .support .result) (at-size .size .result)
-          (entry .pre .2) (at-support .support .ensures .0) (at-size .size .ensures),
-      set-made (entry .args .start) (now (entry .args .kkt)) (now (entry .args .w)) (at-support .support .result) (at-size .size .result)
-          (entry .pre .2) (at-support .support .ensures .0) (at-size .size .ensures) (at-support .support .last .1 .0)
-          (c .before .before .rank .last .1 .1 .0)
-          (at-support .support .kept .1 .0 ∙ at-clear-indices .clear-indices .kept .0 ∙ entry .pre .3) (at-support .support .ensures .1)
-          (c .before .before .rank .ensures),
-    )
+    let ranked = c .before .before .rank in
+    let sizes = c .before .before .before .before in
+    let found = sizes .before .before .before in
+    let many = found .support .ensures .0 in
+    let start = entry found in
+    let a = start .args in
+    let is-size = sized (a .start) (now (a .kkt)) (now (a .w)) (found .support .result) (sizes .size .result) in
+    let is-set = set-made (a .start) (now (a .kkt)) (now (a .w)) (found .support .result) (sizes .size .result) in
+    let made = is-set (start .pre .2) many (sizes .size .ensures) (found .support .last .1 .0) (ranked .last .1 .1 .0) in
+    (is-size (start .pre .2) many (sizes .size .ensures), made (long found) (found .support .ensures .1) (ranked .ensures))
 
 pub construct-ws-spec : {M : Type 1} → statement M
 construct-ws-spec =

@@ -46,13 +46,15 @@ shared-slice-read-is-bad-violation-2 c = search needs
 is-bad-violation-requires : tie.Need-is-bad-violation-requires Inv-loop μ-loop
 is-bad-violation-requires c κs = search needs
 
+-- the test at each feature
+abbrev bad : tie.In-loop Inv-loop μ-loop → ℕ → Bool
+bad c = let entry = c .before .before .before .before in badViolation (now (entry .args .kkt)) (now (entry .args .w))
+
 returns : tie.Need-returns Inv-loop μ-loop
 returns c =
-    let at-there = c .before .before .before .before .before .before .before .before in
-    let entry = at-there in
-    mark-here (badViolation (now (entry .args .kkt)) (now (entry .args .w))) (λ i. i) _ _
-    (c .before .before .before .before .before .loop .inv .2) (is-bad _ _ _ _ (c .before .is-bad-violation .ensures)) _ (c .if1 .taken)
-    (c .before .before .before .before .loop-test .taken)
+    let test = c .before .before .before .before in
+    let told = is-bad _ _ _ _ (c .before .is-bad-violation .ensures) in
+    mark-here (bad test) (λ i. i) _ _ (test .before .loop .inv .2) told _ (c .if1 .taken) (test .loop-test .taken)
 
 add-j : tie.Need-add-j Inv-loop μ-loop
 add-j c = search needs
@@ -61,15 +63,12 @@ loop-less : tie.Need-loop-less Inv-loop μ-loop
 loop-less c = search needs
 
 loop-again : tie.Need-loop-again Inv-loop μ-loop
-loop-again c = (
-  search needs,
-  search needs,
-  mark-on
-      (badViolation (now (c .before .before .before .before .before .before .before .before .args .kkt))
-      (now (c .before .before .before .before .before .before .before .before .args .w)))
-      (λ i. i) _ _ (c .before .before .before .before .before .loop .inv .2) (is-bad _ _ _ _ (c .before .is-bad-violation .ensures))
-      (c .if1 .left),
-)
+loop-again c =
+    let test = c .before .before .before .before in (
+      search needs,
+      search needs,
+      mark-on (bad test) (λ i. i) _ _ (test .before .loop .inv .2) (is-bad _ _ _ _ (c .before .is-bad-violation .ensures)) (c .if1 .left),
+    )
 
 returns-2 : tie.Need-returns-2 Inv-loop μ-loop
 returns-2 c = steps-all _ _ _ _ _ (c .before .loop .inv .2) (c .before .loop .inv .1) (c .loop-test .left)

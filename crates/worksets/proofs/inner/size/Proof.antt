@@ -11,19 +11,15 @@ mul-twice c = search needs
 
 returns : tie.Need-returns
 returns c =
-    rw (
-      ← smaller-of (2 * c .before .before .args .nonzero) (c .before .before .args .p) _ (c .before .if1 .came) (λ t. t .taken)
-          (λ t. t .left),
-      lt-ltb _ _ (c .if2 .taken),
-    )
+    let entry = c .before .before in
+    let grown = smaller-of (2 * entry .args .nonzero) (entry .args .p) _ (c .before .if1 .came) (λ t. t .taken) (λ t. t .left) in
+    rw (← grown, lt-ltb _ _ (c .if2 .taken))
 
 returns-2 : tie.Need-returns-2
 returns-2 c =
-    rw (
-      ← smaller-of (2 * c .before .before .args .nonzero) (c .before .before .args .p) _ (c .before .if1 .came) (λ t. t .taken)
-          (λ t. t .left),
-      le-ltb _ _ (c .if2 .left),
-    )
+    let entry = c .before .before in
+    let grown = smaller-of (2 * entry .args .nonzero) (entry .args .p) _ (c .before .if1 .came) (λ t. t .taken) (λ t. t .left) in
+    rw (← grown, le-ltb _ _ (c .if2 .left))
 
 pub size-spec : {M : Type 1} → statement M
 size-spec = tie.close (tie.spec mul-twice returns returns-2)

@@ -34,11 +34,10 @@ shared-slice-read-append : tie.Need-shared-slice-read-append Inv-loop μ-loop
 shared-slice-read-append c = search needs
 
 append-requires : tie.Need-append-requires Inv-loop μ-loop
-append-requires c κs = (
-  support-room _ _ _ _ (c .before .before .before .loop .indices) (c .before .before .before .loop .inv .4)
-      (c .before .before .loop-test .taken) (c .before .before .before .loop .inv .3),
-  search needs,
-)
+append-requires c κs =
+    let test = c .before .before in
+    let so-far = test .before .loop in
+    (support-room _ _ _ _ (so-far .indices) (so-far .inv .4) (test .loop-test .taken) (so-far .inv .3), search needs)
 
 add-j : tie.Need-add-j Inv-loop μ-loop
 add-j c = search needs
@@ -47,16 +46,17 @@ loop-less : tie.Need-loop-less Inv-loop μ-loop
 loop-less c = search needs
 
 loop-again : tie.Need-loop-again Inv-loop μ-loop
-loop-again c = (
-  search needs,
-  search needs,
-  search needs,
-  search needs,
-  support-count _ _ _ _ (c .before .before .before .before .before .before .loop .inv .4) (c .before .before .append .ensures .0),
-  support-turn _ _ _ _ _ _ (c .before .before .before .before .before .loop-test .taken)
-      (c .before .before .before .before .before .before .loop .inv .4) (c .before .before .before .before .before .before .loop .inv .5)
-      (c .before .before .append .ensures .1),
-)
+loop-again c =
+    let test = c .before .before .before .before .before in
+    let so-far = test .before .loop .inv in
+    let more = c .before .before .append .ensures in (
+      search needs,
+      search needs,
+      search needs,
+      search needs,
+      support-count _ _ _ _ (so-far .4) (more .0),
+      support-turn _ _ _ _ _ _ (test .loop-test .taken) (so-far .4) (so-far .5) (more .1),
+    )
 
 same-length : tie.Need-same-length Inv-loop μ-loop
 same-length c = search needs
