@@ -14,7 +14,7 @@ use Rattle.doubles.specs.Num.{pick, finite, _or_}
 use Rattle.doubles.specs.Steps.{Stage, going, stopped, bad, andThen, tab}
 use Rattle.doubles.specs.Buffer.{put}
 use Rattle.doubles.proofs.Laws.Steps.{length-tab, getD-tab, all-each, picked, not-picked}
-use Rattle.doubles.proofs.Laws.Choice.{and-both}
+use Rattle.doubles.proofs.Laws.Choice.{and-both, smaller-most}
 use Rattle.designs.specs.Given.{Given}
 use Rattle.designs.specs.declared.Shape.{Shape}
 use Rattle.runs.specs.WorkingSet.{smaller, size, workingSet, padded}
@@ -38,13 +38,6 @@ use Rattle.loops.specs.declared.RunEnd.the-variants as RunEnd
 use Rattle.doubles.proofs.Laws.Parts.{part-at, part-behind}
 
 -- ---- the working set
-smaller-most : (a n : ℕ) → smaller a n ≤ n
-smaller-most a n = go (ltb n a) refl
-  where
-    go : (b : Bool) → ltb n a ≡ b → pick b n a ≤ n
-    go true q = omega arith
-    go false q = let h = ltb-false n a q in omega arith
-
 pub start-most : (a n m k : ℕ) → k ≡ smaller a n → m ≡ n → k ≤ m
 start-most a n m k e h = rw (e, h) (smaller-most a n)
 

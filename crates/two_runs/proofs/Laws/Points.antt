@@ -5,12 +5,13 @@ use mathlib.Core.Bool.{Bool, true, false}
 use mathlib.Core.List.{List, [], _∷_, _++_}
 use Prim.Native.Nat.{ℕ, _≤_, _<_}
 use native.Mathlib.Nat.{le-refl}
-use lib.Dec.{eqb, ltb}
+use lib.Dec.{eqb}
 use lib.ListN.{length, getD, set, length-set}
 use lib.Seq.{getD-set-same, getD-set-other}
 use lib.Ieee.{Float, nan, eq}
-use borrow.Author.Tests.{ltb-false, eqb-true, eqb-false}
+use borrow.Author.Tests.{eqb-true, eqb-false}
 use Rattle.doubles.specs.Num.{#0, at, pick}
+use Rattle.doubles.proofs.Laws.Choice.{smaller-most}
 use Rattle.doubles.proofs.Laws.Steps.{steps-same, tab-same, length-tab, getD-tab}
 use Rattle.runs.specs.WorkingSet.{isZero, smaller, support, size, insert, others, workingSet}
 use Rattle.runs.specs.Epoch.{Point, constant, known, allKnown, violations, worst, knownIn, worstIn, fine, visited, visit, visits}
@@ -57,13 +58,6 @@ module _ (w w' : List Float) (n : ℕ) (zero : (j : ℕ) → j < n → isZero w 
   set-same : length w ≡ n → length w' ≡ n → (start : ℕ) (v : List Float) → workingSet start v w ≡ workingSet start v w'
   unfolding workingSet size
   set-same e e' start v = rw (e, e', support-same, others-same v)
-
-smaller-most : (a b : ℕ) → smaller a b ≤ b
-smaller-most a b = go (ltb b a) refl
-  where
-    go : (t : Bool) → ltb b a ≡ t → pick t b a ≤ b
-    go true e = le-refl b
-    go false e = ltb-false b a e
 
 module _ (P : Pair) (H : Respects P) where
   -- ---- violations, over all features and over a working set
