@@ -4,7 +4,6 @@ use mathlib.Core.Path.{_≡_, refl, ap, _∙_}
 use mathlib.Core.Bool.{Bool, true, false}
 use mathlib.Core.List.{List, [], _∷_, _++_}
 use Prim.Native.Nat.{ℕ, _≤_, _<_}
-use native.Mathlib.Nat.{le-refl}
 use lib.Dec.{eqb}
 use lib.ListN.{length, getD, set, length-set}
 use lib.Seq.{getD-set-same, getD-set-other}
@@ -13,7 +12,7 @@ use borrow.Author.Tests.{eqb-true, eqb-false}
 use Rattle.doubles.specs.Num.{#0, at, pick}
 use Rattle.doubles.proofs.Laws.Choice.{smaller-most}
 use Rattle.doubles.proofs.Laws.Steps.{steps-same, tab-same, length-tab, getD-tab}
-use Rattle.runs.specs.WorkingSet.{isZero, smaller, support, size, insert, others, workingSet}
+use Rattle.runs.specs.WorkingSet.{isZero, support, size, insert, others, workingSet}
 use Rattle.runs.specs.Epoch.{Point, constant, known, allKnown, violations, worst, knownIn, worstIn, fine, visited, visit, visits}
 use Rattle.runs.specs.Run.{startSize, chosenSet}
 use Rattle.runs.specs.Call.{zeros}
