@@ -13,6 +13,8 @@ ghost use Rattle.runs.specs.Run as def;
 ghost use Rattle.anderson.specs.Places.{pointOf, taskIn};
 ghost use Rattle.inner_loops.specs.Reading as here;
 use anderson::anderson_accel;
+use decisions::is_check_due;
+use decisions::is_enough;
 use designs::Shape;
 use epochs::Worst;
 use epochs::cd_epoch;
@@ -30,16 +32,6 @@ pub enum InnerStep {
     Going(Counts),
     Stopped(Counts),
     Bad,
-}
-
-// Whether the epochs of a working set may stop at its violation v.
-fn is_enough(everything: bool, tolerance: f64, outer: f64, v: f64) -> bool
-    ensures { λ r. ⌜ r ≡ num.pick everything (le v tolerance) (lt v (num._⊗_ def.#0·3 outer)) ⌝ }
-{
-    if everything {
-        return v <= tolerance;
-    }
-    v < 0.3 * outer
 }
 
 // The check of a working set's largest violation.
@@ -73,16 +65,6 @@ fn check(
             InnerStep::Going(counts)
         }
     }
-}
-
-// Epochs 10, 20, .. are checked.
-fn is_check_due(e: usize) -> bool
-    ensures { λ r. ⌜ r ≡ def.checks e ⌝ }
-{
-    if e == 0 {
-        return false;
-    }
-    e % 10 == 0
 }
 
 // The epoch is counted; with extrapolation on, the weights are kept and the step is tried.

@@ -18,6 +18,8 @@ ghost use Rattle.loops.specs.Reading as here;
 ghost use Rattle.loops.specs.declared.OuterStep.the-variants.{Going};
 ghost use Rattle.loops.specs.declared.RunEnd.the-variants.{GivenUp};
 use columns::clear;
+use decisions::is_usable;
+use decisions::start_size;
 use designs::Shape;
 use doubles::Refusal;
 use doubles::is_finite;
@@ -51,13 +53,6 @@ pub enum RunEnd {
 }
 
 // ---- the outer loop
-
-// The start size, capped at p.
-fn start_size(start: usize, p: usize) -> usize
-    ensures { λ r. ⌜ r ≡ set'.smaller start p ⌝ }
-{
-    if p < start { p } else { start }
-}
 
 // One more iteration is counted.
 fn one_more(v: f64, totals: Totals, counts: Counts) -> OuterStep
@@ -290,37 +285,6 @@ fn run(
 }
 
 // ---- the preparation
-
-// Whether a constant, its inverse if it is not zero, and an entry of X'y are finite.
-fn is_usable_at(constant: f64, xty: f64) -> bool
-    ensures { λ r. ⌜ r ≡ call.usable constant xty ⌝ }
-{
-    if is_finite(constant) {} else {
-        return false;
-    }
-    if constant == 0.0 {
-        return is_finite(xty);
-    }
-    if is_finite(1.0 / constant) {} else {
-        return false;
-    }
-    is_finite(xty)
-}
-
-// Whether all columns are usable.
-fn is_usable(prepared: &[f64], p: usize) -> bool
-    requires { ⌜ (p ≤ 8192) × (length (now prepared) ≡ p + p) ⌝ }
-    ensures { λ r. ⌜ r ≡ all (λ j. call.usable (num.at (now (prepared .entry)) j) (num.at (now (prepared .entry)) (p + j))) p ⌝ }
-{
-    let mut j = 0;
-    while j < p {
-        if is_usable_at(prepared[j], prepared[p + j]) {} else {
-            return false;
-        }
-        j += 1;
-    }
-    true
-}
 
 // The preparation, then the run that uses it.
 pub fn solve(

@@ -2,9 +2,7 @@
 // 1 to 6, it changes no lent buffer, and with 7 it leaves the room it used at zero.
 ghost use mathlib.Core.Path.{_≡_};
 ghost use Prim.Native.Nat.{_≤_};
-ghost use lib.Ieee.{le};
 ghost use lib.ListN.{length};
-ghost use Rattle.doubles.specs.Num as num;
 ghost use Rattle.doubles.specs.Steps.{tab};
 ghost use Rattle.doubles.specs.Answer.{none, verdictOf};
 ghost use Rattle.designs.specs.Given.{given};
@@ -13,6 +11,9 @@ ghost use Rattle.runs.specs.declared.Fit.the-variants.{Refused};
 ghost use Rattle.inner_loops.specs.Reading.{Ready};
 ghost use Rattle.solvers.specs.Inner.Left as left;
 use columns::clear;
+use decisions::check_settings;
+use decisions::scratch_room;
+use decisions::status;
 use designs::Shape;
 use designs::inner::check_sized;
 use designs::inner::sizes_agree;
@@ -20,8 +21,6 @@ use doubles::Refusal;
 use doubles::Verdict;
 use doubles::inner::both;
 use doubles::inner::refused;
-use leaves::penalties::inner::alpha_in_range;
-use leaves::penalties::inner::check_range;
 use loops::RunEnd;
 use loops::Totals;
 use loops::solve;
@@ -31,56 +30,6 @@ use runs::Settings;
 use worksets::inner::clear_indices;
 
 // ---- the tests that only a whole call has
-
-// Depth K counts only with extrapolation on.
-fn depth_in_range(settings: Settings) -> bool
-    ensures { λ r. ⌜ r ≡ call.depthLegal settings ⌝ }
-{
-    if settings.extrapolate {
-        return both(1 <= settings.depth, settings.depth <= 10);
-    }
-    true
-}
-
-fn start_in_range(settings: Settings) -> bool
-    ensures { λ r. ⌜ r ≡ call.startLegal settings ⌝ }
-{
-    both(1 <= settings.start, settings.start <= 8192)
-}
-
-// 2, for the first setting that is outside its range.
-fn check_settings(settings: Settings) -> Verdict
-    ensures { λ r. ⌜ verdictOf r ≡ call.settingsFault settings ⌝ }
-{
-    if 1000 < settings.iterations {
-        return refused(2, 0);
-    }
-    if 100000 < settings.epochs {
-        return refused(2, 0);
-    }
-    if start_in_range(settings) {} else {
-        return refused(2, 0);
-    }
-    if depth_in_range(settings) {} else {
-        return refused(2, 0);
-    }
-    if alpha_in_range(settings.tolerance) {} else {
-        return refused(2, 0);
-    }
-    let penalty = settings.penalty;
-    check_range(penalty)
-}
-
-// 3p, or (2K+5)·p + n with extrapolation.
-fn scratch_room(shape: Shape, settings: Settings) -> usize
-    requires { ⌜ (shape .n ≤ 65536) × (shape .p ≤ 8192) × (call.settingsFault settings ≡ none) ⌝ }
-    ensures { λ r. ⌜ r ≡ call.scratchRoom shape settings ⌝ }
-{
-    if settings.extrapolate {
-        return (2 * settings.depth + 5) * shape.p + shape.n;
-    }
-    3 * shape.p
-}
 
 // Whether each lent buffer has its room.
 fn has_room(
@@ -127,13 +76,6 @@ fn check_fit(
 }
 
 // ---- the answer
-
-// Status is 1 if the violation is at most the tolerance, else 2.
-fn status(violation: f64, tolerance: f64) -> u32
-    ensures { λ r. ⌜ r ≡ num.pick (le violation tolerance) 1 2 ⌝ }
-{
-    if violation <= tolerance { 1 } else { 2 }
-}
 
 fn report(totals: Totals, tolerance: f64) -> Report
     ensures { λ r. ⌜ r ≡ left.reportFrom totals tolerance ⌝ }

@@ -1,9 +1,7 @@
 -- The answer and the buffers of a whole call, from what its parts answer. Assumes nothing.
 use mathlib.Core.Path.{_≡_, refl, sym, ap, _∙_}
 use mathlib.Core.Bool.{Bool, true, false}
-use Prim.Native.Nat.{ℕ, _+_, _*_, _≤_}
-use native.Mathlib.Nat.{mul-le-mul}
-use native.Mathlib.Omega.{arith}
+use Prim.Native.Nat.{ℕ, _≤_}
 use mathlib.Core.List.{List}
 use lib.Dec.{leb}
 use lib.ListN.{length, take}
@@ -62,13 +60,6 @@ pub rooms-tested : (s : Shape) (S : Settings) (b : Lent) (room : ℕ) (i f w : B
     → f ≡ (leb (s .n) (length (b .fit)) and i) → w ≡ (leb (s .p) (length (b .weights)) and f) → w ≡ roomy s S b
 unfolding roomy
 rooms-tested s S b room i f w er ei ef ew = ew ∙ rw (ef, ei, er)
-
--- (2K+5)·p + n is small
-pub room-small : (K p n : ℕ) → K ≤ 10 → p ≤ 8192 → n ≤ 65536 → (2 * K + 5) * p + n ≤ 270336
-room-small K p n a b c =
-    let k : 2 * K + 5 ≤ 25 = omega arith in
-    let m : (2 * K + 5) * p ≤ 25 * 8192 = mul-le-mul k b in
-    omega arith
 
 -- ---- behind the tests
 module _ (g : Given) (S : Settings) (b : Lent) (h : fitFault g S b ≡ none) where

@@ -3,8 +3,8 @@ use mathlib.Core.Path.{_∙_}
 use borrow.Author.Tests.{le-leb, lt-leb}
 use Rattle.runs.specs.Call.{settingsFault}
 use borrow.Author.Needs.{needs}
-use Rattle.solvers.proofs.check_settings.Statement.{statement}
-use Rattle.solvers.proofs.check_settings.Tie as tie
+use Rattle.decisions.proofs.check_settings.Statement.{statement}
+use Rattle.decisions.proofs.check_settings.Tie as tie
 
 refused-requires : tie.Need-refused-requires
 refused-requires c κs = search needs

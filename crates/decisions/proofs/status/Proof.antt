@@ -1,6 +1,6 @@
 -- `status`: by one comparison. Assumes nothing.
-use Rattle.solvers.proofs.status.Statement.{statement}
-use Rattle.solvers.proofs.status.Tie as tie
+use Rattle.decisions.proofs.status.Statement.{statement}
+use Rattle.decisions.proofs.status.Tie as tie
 
 returns : tie.Need-returns
 returns c = rw (c .if1 .taken)

@@ -7,8 +7,8 @@ use Rattle.doubles.specs.Steps.{all}
 use Rattle.doubles.proofs.Laws.Steps.{steps-none, steps-all, all-more, all-broken}
 use borrow.Author.Needs.{needs}
 use Rattle.runs.specs.Call.{usable}
-use Rattle.loops.proofs.is_usable.Statement.{statement}
-use Rattle.loops.proofs.is_usable.Tie as tie
+use Rattle.decisions.proofs.is_usable.Statement.{statement}
+use Rattle.decisions.proofs.is_usable.Tie as tie
 
 abbrev Inv-loop : tie.InvT-loop
 Inv-loop prepared p j₀ j = (j ≤ p) × (true ≡ all (λ k. usable (at prepared k) (at prepared (p + k))) j)

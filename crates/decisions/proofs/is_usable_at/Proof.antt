@@ -2,8 +2,8 @@
 use Rattle.doubles.specs.Num.{_and_, _or_}
 use Rattle.runs.specs.Call.{usable}
 use borrow.Author.Needs.{needs}
-use Rattle.loops.proofs.is_usable_at.Statement.{statement}
-use Rattle.loops.proofs.is_usable_at.Tie as tie
+use Rattle.decisions.proofs.is_usable_at.Statement.{statement}
+use Rattle.decisions.proofs.is_usable_at.Tie as tie
 
 is-finite-requires : tie.Need-is-finite-requires
 is-finite-requires c κs = search needs

@@ -1,6 +1,6 @@
 -- `is_enough`: with all features chosen against the tolerance, else against 0.3 of the outer violation. Assumes nothing.
-use Rattle.inner_loops.proofs.is_enough.Statement.{statement}
-use Rattle.inner_loops.proofs.is_enough.Tie as tie
+use Rattle.decisions.proofs.is_enough.Statement.{statement}
+use Rattle.decisions.proofs.is_enough.Tie as tie
 
 returns : tie.Need-returns
 returns c = rw (c .if1 .taken)

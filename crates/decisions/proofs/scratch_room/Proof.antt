@@ -1,11 +1,11 @@
 -- `scratch_room`: by whether extrapolation is on. Assumes nothing.
 use native.Mathlib.Omega.{arith}
 use Rattle.runs.proofs.Laws.Settings.{shallow}
-use Rattle.solvers.proofs.Laws.Calls.{room-small}
+use Rattle.decisions.proofs.Laws.Room.{room-small}
 use Rattle.runs.specs.Call.{scratchRoom}
 use borrow.Author.Needs.{needs}
-use Rattle.solvers.proofs.scratch_room.Statement.{statement}
-use Rattle.solvers.proofs.scratch_room.Tie as tie
+use Rattle.decisions.proofs.scratch_room.Statement.{statement}
+use Rattle.decisions.proofs.scratch_room.Tie as tie
 
 mul-result : tie.Need-mul-result
 mul-result c = let h = shallow _ (c .before .before .pre .2) (c .before .if1 .taken) in omega arith

@@ -1,8 +1,8 @@
 -- `depth_in_range`: the depth is looked at only with extrapolation on. Assumes nothing.
 use Rattle.runs.specs.Call.{depthLegal}
 use borrow.Author.Needs.{needs}
-use Rattle.solvers.proofs.depth_in_range.Statement.{statement}
-use Rattle.solvers.proofs.depth_in_range.Tie as tie
+use Rattle.decisions.proofs.depth_in_range.Statement.{statement}
+use Rattle.decisions.proofs.depth_in_range.Tie as tie
 
 both-requires : tie.Need-both-requires
 both-requires c κs = search needs

@@ -1,7 +1,7 @@
 -- `start_size`: the smaller of the two. Assumes nothing.
 use borrow.Author.Tests.{lt-ltb, le-ltb}
-use Rattle.loops.proofs.start_size.Statement.{statement}
-use Rattle.loops.proofs.start_size.Tie as tie
+use Rattle.decisions.proofs.start_size.Statement.{statement}
+use Rattle.decisions.proofs.start_size.Tie as tie
 
 returns : tie.Need-returns
 returns c = rw (lt-ltb _ _ (c .if1 .taken))

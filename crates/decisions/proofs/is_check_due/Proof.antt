@@ -3,8 +3,8 @@ use Rattle.doubles.specs.Num.{_and_}
 use Rattle.runs.specs.Run.{checks}
 use borrow.Author.Tests.{lt-ltb}
 use Rattle.doubles.proofs.Laws.Choice.{positive}
-use Rattle.inner_loops.proofs.is_check_due.Statement.{statement}
-use Rattle.inner_loops.proofs.is_check_due.Tie as tie
+use Rattle.decisions.proofs.is_check_due.Statement.{statement}
+use Rattle.decisions.proofs.is_check_due.Tie as tie
 
 returns : tie.Need-returns
 unfolding checks _and_

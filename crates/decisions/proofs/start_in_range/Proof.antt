@@ -1,8 +1,8 @@
 -- `start_in_range`: both bounds. Assumes nothing.
 use Rattle.runs.specs.Call.{startLegal}
 use borrow.Author.Needs.{needs}
-use Rattle.solvers.proofs.start_in_range.Statement.{statement}
-use Rattle.solvers.proofs.start_in_range.Tie as tie
+use Rattle.decisions.proofs.start_in_range.Statement.{statement}
+use Rattle.decisions.proofs.start_in_range.Tie as tie
 
 both-requires : tie.Need-both-requires
 both-requires c κs = search needs

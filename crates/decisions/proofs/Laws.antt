@@ -1,0 +1,2 @@
+-- Laws on the sizes that settings ask for.
+pub mod Room
