@@ -116,7 +116,8 @@ fn csc_dot(
     v: &[f64],
 ) -> f64
     requires { ⌜ (feature .0 < shape .p) × Sound (shape .n) (shape .p) (now starts) (now rows) (now values) × (shape .n ≤ length (now v)) ⌝ }
-    ensures { λ r. ⌜ r ≡ def.dot (def.csc (shape .n) (shape .p) (now (starts .entry)) (now (rows .entry)) (now (values .entry))) (feature .0) (now (v .entry)) ⌝ }
+    ensures { λ r. ⌜ (let X = def.csc (shape .n) (shape .p) (now (starts .entry)) (now (rows .entry)) (now (values .entry)) in
+        r ≡ def.dot X (feature .0) (now (v .entry))) ⌝ }
 {
     let j = feature.0;
     let start = starts[j] as usize;
@@ -143,7 +144,8 @@ pub fn column_dot(
     v: &[f64],
 ) -> f64
     requires { ⌜ (feature .0 < shape .p) × Whole shape (now starts) (now rows) (now values) × (shape .n ≤ length (now v)) ⌝ }
-    ensures { λ r. ⌜ r ≡ def.dot (def.design shape (now (starts .entry)) (now (rows .entry)) (now (values .entry))) (feature .0) (now (v .entry)) ⌝ }
+    ensures { λ r. ⌜ (let X = def.design shape (now (starts .entry)) (now (rows .entry)) (now (values .entry)) in
+        r ≡ def.dot X (feature .0) (now (v .entry))) ⌝ }
 {
     let layout = shape.layout;
     match layout {
@@ -178,8 +180,8 @@ fn csc_update(
     fit: &mut [f64],
 )
     requires { ⌜ (feature .0 < shape .p) × Sound (shape .n) (shape .p) (now starts) (now rows) (now values) × (shape .n ≤ length (now fit)) ⌝ }
-    ensures { λ _. ⌜ now (fit .exit)
-        ≡ def.moved (def.csc (shape .n) (shape .p) (now (starts .entry)) (now (rows .entry)) (now (values .entry))) (feature .0) d (now (fit .entry)) ⌝ }
+    ensures { λ _. ⌜ (let X = def.csc (shape .n) (shape .p) (now (starts .entry)) (now (rows .entry)) (now (values .entry)) in
+        now (fit .exit) ≡ def.moved X (feature .0) d (now (fit .entry))) ⌝ }
 {
     let j = feature.0;
     let start = starts[j] as usize;
@@ -205,7 +207,8 @@ pub fn column_update(
     fit: &mut [f64],
 )
     requires { ⌜ (feature .0 < shape .p) × Whole shape (now starts) (now rows) (now values) × (shape .n ≤ length (now fit)) ⌝ }
-    ensures { λ _. ⌜ now (fit .exit) ≡ def.moved (def.design shape (now (starts .entry)) (now (rows .entry)) (now (values .entry))) (feature .0) d (now (fit .entry)) ⌝ }
+    ensures { λ _. ⌜ (let X = def.design shape (now (starts .entry)) (now (rows .entry)) (now (values .entry)) in
+        now (fit .exit) ≡ def.moved X (feature .0) d (now (fit .entry))) ⌝ }
 {
     let layout = shape.layout;
     match layout {
@@ -225,8 +228,8 @@ fn csc_finite(
     fit: &[f64],
 ) -> bool
     requires { ⌜ (feature .0 < shape .p) × Sound (shape .n) (shape .p) (now starts) (now rows) (now values) × (shape .n ≤ length (now fit)) ⌝ }
-    ensures { λ r. ⌜ r
-        ≡ def.finiteAt (def.csc (shape .n) (shape .p) (now (starts .entry)) (now (rows .entry)) (now (values .entry))) (feature .0) (now (fit .entry)) ⌝ }
+    ensures { λ r. ⌜ (let X = def.csc (shape .n) (shape .p) (now (starts .entry)) (now (rows .entry)) (now (values .entry)) in
+        r ≡ def.finiteAt X (feature .0) (now (fit .entry))) ⌝ }
 {
     let j = feature.0;
     let start = starts[j] as usize;
@@ -253,7 +256,8 @@ pub fn column_finite(
     fit: &[f64],
 ) -> bool
     requires { ⌜ (feature .0 < shape .p) × Whole shape (now starts) (now rows) (now values) × (length (now fit) ≡ shape .n) ⌝ }
-    ensures { λ r. ⌜ r ≡ def.finiteAt (def.design shape (now (starts .entry)) (now (rows .entry)) (now (values .entry))) (feature .0) (now (fit .entry)) ⌝ }
+    ensures { λ r. ⌜ (let X = def.design shape (now (starts .entry)) (now (rows .entry)) (now (values .entry)) in
+        r ≡ def.finiteAt X (feature .0) (now (fit .entry))) ⌝ }
 {
     let layout = shape.layout;
     match layout {
@@ -294,7 +298,8 @@ fn row_fit(values: &[f64], base: usize, ws: &[u32], w: &[f64]) -> f64
 // Row by row: the same bits as column by column, since each sample adds the features in their order, and memory is streamed once.
 fn dense_extrapolated_fit(values: &[f64], ws: &[u32], w: &[f64], fit: &mut [f64])
     requires { ⌜ ((k : ℕ) → k < length (now ws) → getD (now ws) k 0 < length (now w)) × (length (now fit) * length (now w) ≤ length (now values)) ⌝ }
-    ensures { λ _. ⌜ now (fit .exit) ≡ def.extrapolated (def.dense (length (now (fit .entry))) (length (now (w .entry))) (now (values .entry))) (now (ws .entry)) (now (w .entry)) ⌝ }
+    ensures { λ _. ⌜ now (fit .exit)
+        ≡ def.extrapolated (def.dense (length (now (fit .entry))) (length (now (w .entry))) (now (values .entry))) (now (ws .entry)) (now (w .entry)) ⌝ }
 {
     let mut i = 0;
     while i < fit.len() {
@@ -315,9 +320,8 @@ fn csc_update_all(
 )
     requires { ⌜ ((k : ℕ) → k < length (now ws) → getD (now ws) k 0 < shape .p)
         × Sound (shape .n) (shape .p) (now starts) (now rows) (now values) × (length (now w) ≡ shape .p) × (length (now fit) ≡ shape .n) ⌝ }
-    ensures { λ _. ⌜ now (fit .exit)
-        ≡ def.movedAll (def.csc (shape .n) (shape .p) (now (starts .entry)) (now (rows .entry)) (now (values .entry)))
-        (now (ws .entry)) (now (w .entry)) (now (fit .entry)) ⌝ }
+    ensures { λ _. ⌜ (let X = def.csc (shape .n) (shape .p) (now (starts .entry)) (now (rows .entry)) (now (values .entry)) in
+        now (fit .exit) ≡ def.movedAll X (now (ws .entry)) (now (w .entry)) (now (fit .entry))) ⌝ }
 {
     let mut k = 0;
     while k < ws.len() {
@@ -344,8 +348,10 @@ fn csc_extrapolated_fit(
     w: &[f64],
     fit: &mut [f64],
 )
-    requires { ⌜ ((k : ℕ) → k < length (now ws) → getD (now ws) k 0 < shape .p) × Sound (shape .n) (shape .p) (now starts) (now rows) (now values) × (length (now w) ≡ shape .p) × (length (now fit) ≡ shape .n) ⌝ }
-    ensures { λ _. ⌜ now (fit .exit) ≡ def.extrapolated (def.csc (shape .n) (shape .p) (now (starts .entry)) (now (rows .entry)) (now (values .entry))) (now (ws .entry)) (now (w .entry)) ⌝ }
+    requires { ⌜ ((k : ℕ) → k < length (now ws) → getD (now ws) k 0 < shape .p)
+        × Sound (shape .n) (shape .p) (now starts) (now rows) (now values) × (length (now w) ≡ shape .p) × (length (now fit) ≡ shape .n) ⌝ }
+    ensures { λ _. ⌜ (let X = def.csc (shape .n) (shape .p) (now (starts .entry)) (now (rows .entry)) (now (values .entry)) in
+        now (fit .exit) ≡ def.extrapolated X (now (ws .entry)) (now (w .entry))) ⌝ }
 {
     clear(fit);
     csc_update_all(shape, starts, rows, values, ws, w, fit);
@@ -361,8 +367,10 @@ pub fn extrapolated_fit(
     w: &[f64],
     fit: &mut [f64],
 )
-    requires { ⌜ ((k : ℕ) → k < length (now ws) → getD (now ws) k 0 < shape .p) × Whole shape (now starts) (now rows) (now values) × (length (now w) ≡ shape .p) × (length (now fit) ≡ shape .n) ⌝ }
-    ensures { λ _. ⌜ now (fit .exit) ≡ def.extrapolated (def.design shape (now (starts .entry)) (now (rows .entry)) (now (values .entry))) (now (ws .entry)) (now (w .entry)) ⌝ }
+    requires { ⌜ ((k : ℕ) → k < length (now ws) → getD (now ws) k 0 < shape .p) × Whole shape (now starts) (now rows) (now values)
+        × (length (now w) ≡ shape .p) × (length (now fit) ≡ shape .n) ⌝ }
+    ensures { λ _. ⌜ (let X = def.design shape (now (starts .entry)) (now (rows .entry)) (now (values .entry)) in
+        now (fit .exit) ≡ def.extrapolated X (now (ws .entry)) (now (w .entry))) ⌝ }
 {
     let layout = shape.layout;
     match layout {

@@ -80,10 +80,10 @@ pub fn opt_cond_violation(
     requires { ⌜ (shape .n ≤ 65536) × (shape .p ≤ 8192) × (length (now w) ≡ shape .p)
         × (shape .p + shape .p + shape .p ≤ length (now scratch)) × Whole shape (now starts) (now rows) (now values)
         × (length (now fit) ≡ shape .n) ⌝ }
-    ensures { λ r. ⌜ (reading'.measuredOf r (now (scratch .exit))
-        ≡ reading'.measured (def.task shape (now (starts .entry)) (now (rows .entry)) (now (values .entry)) penalty (take (shape .p + shape .p) (now
-        (scratch .entry)))) (now (w .entry)) (now (fit .entry)) (now (scratch .entry)))
-        × (take (shape .p + shape .p) (now (scratch .exit)) ≡ take (shape .p + shape .p) (now (scratch .entry))) ⌝ }
+    ensures { λ r. ⌜ (let prepared = take (shape .p + shape .p) (now (scratch .entry)) in
+        let T = def.task shape (now (starts .entry)) (now (rows .entry)) (now (values .entry)) penalty prepared in
+        (reading'.measuredOf r (now (scratch .exit)) ≡ reading'.measured T (now (w .entry)) (now (fit .entry)) (now (scratch .entry)))
+        × (take (shape .p + shape .p) (now (scratch .exit)) ≡ take (shape .p + shape .p) (now (scratch .entry)))) ⌝ }
 {
     gradients_behind(shape, starts, rows, values, fit, scratch);
     finish_violations(shape.p, penalty, w, scratch)
@@ -104,9 +104,8 @@ pub fn ws_violation(
     requires { ⌜ ((k : ℕ) → k < length (now ws) → getD (now ws) k 0 < shape .p) × (shape .n ≤ 65536) × (length (now w) ≡ shape .p)
         × (length (now prepared) ≡ shape .p + shape .p) × Whole shape (now starts) (now rows) (now values)
         × (length (now fit) ≡ shape .n) ⌝ }
-    ensures { λ r. ⌜ reading'.worstOf r
-        ≡ reading'.measuredIn (def.task shape (now (starts .entry)) (now (rows .entry)) (now (values .entry)) penalty (now (prepared .entry))) (now
-        (ws .entry)) (now (w .entry)) (now (fit .entry)) ⌝ }
+    ensures { λ r. ⌜ (let T = def.task shape (now (starts .entry)) (now (rows .entry)) (now (values .entry)) penalty (now (prepared .entry)) in
+        reading'.worstOf r ≡ reading'.measuredIn T (now (ws .entry)) (now (w .entry)) (now (fit .entry))) ⌝ }
 {
     let mut largest = -(1.0 / 0.0);
     let mut i = 0;
@@ -163,9 +162,8 @@ fn visit(
 ) -> bool
     requires { ⌜ (feature .0 < shape .p) × (shape .n ≤ 65536) × (length (now w) ≡ shape .p) × (length (now prepared) ≡ shape .p + shape .p)
         × Whole shape (now starts) (now rows) (now values) × (length (now fit) ≡ shape .n) ⌝ }
-    ensures { λ r. ⌜ reading'.visitOf r (now (w .exit)) (now (fit .exit))
-        ≡ def.visit (def.task shape (now (starts .entry)) (now (rows .entry)) (now (values .entry)) penalty (now (prepared .entry))) (feature .0)
-        (record { weights = now (w .entry); fit = now (fit .entry) }) ⌝ }
+    ensures { λ r. ⌜ (let T = def.task shape (now (starts .entry)) (now (rows .entry)) (now (values .entry)) penalty (now (prepared .entry)) in
+        reading'.visitOf r (now (w .exit)) (now (fit .exit)) ≡ def.visit T (feature .0) (record { weights = now (w .entry); fit = now (fit .entry) })) ⌝ }
 {
     let lipschitz = constant(prepared, feature);
     if lipschitz == 0.0 {
@@ -199,9 +197,8 @@ pub fn cd_epoch(
     requires { ⌜ ((k : ℕ) → k < length (now ws) → getD (now ws) k 0 < shape .p) × (shape .n ≤ 65536) × (length (now w) ≡ shape .p)
         × (length (now prepared) ≡ shape .p + shape .p) × Whole shape (now starts) (now rows) (now values)
         × (length (now fit) ≡ shape .n) ⌝ }
-    ensures { λ r. ⌜ reading'.visitOf r (now (w .exit)) (now (fit .exit))
-        ≡ def.visits (def.task shape (now (starts .entry)) (now (rows .entry)) (now (values .entry)) penalty (now (prepared .entry))) (now
-        (ws .entry)) (record { weights = now (w .entry); fit = now (fit .entry) }) ⌝ }
+    ensures { λ r. ⌜ (let T = def.task shape (now (starts .entry)) (now (rows .entry)) (now (values .entry)) penalty (now (prepared .entry)) in
+        reading'.visitOf r (now (w .exit)) (now (fit .exit)) ≡ def.visits T (now (ws .entry)) (record { weights = now (w .entry); fit = now (fit .entry) })) ⌝ }
 {
     let mut i = 0;
     while i < ws.len() {

@@ -21,7 +21,8 @@ use doubles::larger;
 // A row of a dense design, which starts at base, times x, is added to the running sums.
 fn add_row(values: &[f64], base: usize, x: f64, buf: &mut [f64])
     requires { ⌜ base + length (now buf) ≤ length (now values) ⌝ }
-    ensures { λ _. ⌜ now (buf .exit) ≡ tab (λ j. num._⊕_ (num.at (now (buf .entry)) j) (num._⊗_ (num.at (now (values .entry)) (base + j)) x)) (length (now (buf .entry))) ⌝ }
+    ensures { λ _. ⌜ now (buf .exit)
+        ≡ tab (λ j. num._⊕_ (num.at (now (buf .entry)) j) (num._⊗_ (num.at (now (values .entry)) (base + j)) x)) (length (now (buf .entry))) ⌝ }
 {
     let mut j = 0;
     while j < buf.len() {
@@ -52,7 +53,8 @@ fn dots_by_column(
     buf: &mut [f64],
 )
     requires { ⌜ (length (now buf) ≡ shape .p) × Whole shape (now starts) (now rows) (now values) × (shape .n ≤ length (now v)) ⌝ }
-    ensures { λ _. ⌜ now (buf .exit) ≡ tab (λ j. def.dot (def.design shape (now (starts .entry)) (now (rows .entry)) (now (values .entry))) j (now (v .entry))) (length (now (buf .entry))) ⌝ }
+    ensures { λ _. ⌜ (let X = def.design shape (now (starts .entry)) (now (rows .entry)) (now (values .entry)) in
+        now (buf .exit) ≡ tab (λ j. def.dot X j (now (v .entry))) (length (now (buf .entry)))) ⌝ }
 {
     let mut j = 0;
     while j < buf.len() {
@@ -64,7 +66,8 @@ fn dots_by_column(
 // The products of v and all columns into p places; of the targets, X'y.
 fn all_dots(shape: Shape, starts: &[u32], rows: &[u32], values: &[f64], v: &[f64], buf: &mut [f64])
     requires { ⌜ (length (now buf) ≡ shape .p) × Whole shape (now starts) (now rows) (now values) × (shape .n ≤ length (now v)) ⌝ }
-    ensures { λ _. ⌜ now (buf .exit) ≡ def.dots (def.design shape (now (starts .entry)) (now (rows .entry)) (now (values .entry))) (now (v .entry)) ⌝ }
+    ensures { λ _. ⌜ (let X = def.design shape (now (starts .entry)) (now (rows .entry)) (now (values .entry)) in
+        now (buf .exit) ≡ def.dots X (now (v .entry))) ⌝ }
 {
     let layout = shape.layout;
     match layout {
@@ -106,8 +109,10 @@ pub fn all_gradients(
     fit: &[f64],
     grad: &mut [f64],
 )
-    requires { ⌜ (shape .n ≤ 65536) × (length (now grad) ≡ shape .p) × Whole shape (now starts) (now rows) (now values) × (shape .n ≤ length (now fit)) × (shape .p + shape .p ≤ length (now prepared)) ⌝ }
-    ensures { λ _. ⌜ now (grad .exit) ≡ def.fullGradient (def.design shape (now (starts .entry)) (now (rows .entry)) (now (values .entry))) (now (fit .entry)) (λ j. num.at (now (prepared .entry)) (shape .p + j)) ⌝ }
+    requires { ⌜ (shape .n ≤ 65536) × (length (now grad) ≡ shape .p) × Whole shape (now starts) (now rows) (now values)
+        × (shape .n ≤ length (now fit)) × (shape .p + shape .p ≤ length (now prepared)) ⌝ }
+    ensures { λ _. ⌜ (let X = def.design shape (now (starts .entry)) (now (rows .entry)) (now (values .entry)) in
+        now (grad .exit) ≡ def.fullGradient X (now (fit .entry)) (λ j. num.at (now (prepared .entry)) (shape .p + j))) ⌝ }
 {
     all_dots(shape, starts, rows, values, fit, grad);
     finish(shape.n, prepared, shape.p, grad);
@@ -137,10 +142,9 @@ pub fn gradients_behind(
 )
     requires { ⌜ (shape .n ≤ 65536) × (shape .p ≤ 8192) × (shape .p + shape .p + shape .p ≤ length (now buf))
         × Whole shape (now starts) (now rows) (now values) × (shape .n ≤ length (now fit)) ⌝ }
-    ensures { λ _. ⌜ now (buf .exit)
-        ≡ put (now (buf .entry)) (shape .p + shape .p)
-        (def.fullGradient (def.design shape (now (starts .entry)) (now (rows .entry)) (now (values .entry))) (now (fit .entry))
-        (λ j. num.at (now (buf .entry)) (shape .p + j))) ⌝ }
+    ensures { λ _. ⌜ (let X = def.design shape (now (starts .entry)) (now (rows .entry)) (now (values .entry)) in
+        now (buf .exit)
+        ≡ put (now (buf .entry)) (shape .p + shape .p) (def.fullGradient X (now (fit .entry)) (λ j. num.at (now (buf .entry)) (shape .p + j)))) ⌝ }
 {
     let from = shape.p + shape.p;
     let to = from + shape.p;
@@ -153,7 +157,9 @@ pub fn gradients_behind(
 // The squares of a row of a dense design, which starts at base, are added to the running sums.
 fn add_squares(values: &[f64], base: usize, buf: &mut [f64])
     requires { ⌜ base + length (now buf) ≤ length (now values) ⌝ }
-    ensures { λ _. ⌜ now (buf .exit) ≡ tab (λ j. num._⊕_ (num.at (now (buf .entry)) j) (num._⊗_ (num.at (now (values .entry)) (base + j)) (num.at (now (values .entry)) (base + j)))) (length (now (buf .entry))) ⌝ }
+    ensures { λ _. ⌜ (let values = now (values .entry) in
+        now (buf .exit)
+        ≡ tab (λ j. num._⊕_ (num.at (now (buf .entry)) j) (num._⊗_ (num.at values (base + j)) (num.at values (base + j)))) (length (now (buf .entry)))) ⌝ }
 {
     let mut j = 0;
     while j < buf.len() {
@@ -177,7 +183,8 @@ fn dense_squares(n: usize, values: &[f64], buf: &mut [f64])
 // The sum of the squares of a sparse column.
 fn csc_square(shape: Shape, starts: &[u32], rows: &[u32], values: &[f64], feature: Feature) -> f64
     requires { ⌜ (feature .0 < shape .p) × Sound (shape .n) (shape .p) (now starts) (now rows) (now values) ⌝ }
-    ensures { λ r. ⌜ r ≡ def.squares (def.csc (shape .n) (shape .p) (now (starts .entry)) (now (rows .entry)) (now (values .entry))) (feature .0) ⌝ }
+    ensures { λ r. ⌜ (let X = def.csc (shape .n) (shape .p) (now (starts .entry)) (now (rows .entry)) (now (values .entry)) in
+        r ≡ def.squares X (feature .0)) ⌝ }
 {
     let j = feature.0;
     let start = starts[j] as usize;
@@ -195,7 +202,8 @@ fn csc_square(shape: Shape, starts: &[u32], rows: &[u32], values: &[f64], featur
 
 fn csc_squares(shape: Shape, starts: &[u32], rows: &[u32], values: &[f64], buf: &mut [f64])
     requires { ⌜ (length (now buf) ≡ shape .p) × Sound (shape .n) (shape .p) (now starts) (now rows) (now values) ⌝ }
-    ensures { λ _. ⌜ now (buf .exit) ≡ tab (def.squares (def.csc (shape .n) (shape .p) (now (starts .entry)) (now (rows .entry)) (now (values .entry)))) (length (now (buf .entry))) ⌝ }
+    ensures { λ _. ⌜ (let X = def.csc (shape .n) (shape .p) (now (starts .entry)) (now (rows .entry)) (now (values .entry)) in
+        now (buf .exit) ≡ tab (def.squares X) (length (now (buf .entry)))) ⌝ }
 {
     let mut j = 0;
     while j < buf.len() {
@@ -206,7 +214,8 @@ fn csc_squares(shape: Shape, starts: &[u32], rows: &[u32], values: &[f64], buf: 
 
 fn all_squares(shape: Shape, starts: &[u32], rows: &[u32], values: &[f64], buf: &mut [f64])
     requires { ⌜ (length (now buf) ≡ shape .p) × Whole shape (now starts) (now rows) (now values) ⌝ }
-    ensures { λ _. ⌜ now (buf .exit) ≡ tab (def.squares (def.design shape (now (starts .entry)) (now (rows .entry)) (now (values .entry)))) (shape .p) ⌝ }
+    ensures { λ _. ⌜ (let X = def.design shape (now (starts .entry)) (now (rows .entry)) (now (values .entry)) in
+        now (buf .exit) ≡ tab (def.squares X) (shape .p)) ⌝ }
 {
     let layout = shape.layout;
     match layout {
@@ -231,7 +240,8 @@ fn divide(n: usize, buf: &mut [f64])
 // The Lipschitz constants of all columns into p places.
 fn constants(shape: Shape, starts: &[u32], rows: &[u32], values: &[f64], buf: &mut [f64])
     requires { ⌜ (shape .n ≤ 65536) × (length (now buf) ≡ shape .p) × Whole shape (now starts) (now rows) (now values) ⌝ }
-    ensures { λ _. ⌜ now (buf .exit) ≡ tab (def.lipschitz (def.design shape (now (starts .entry)) (now (rows .entry)) (now (values .entry)))) (shape .p) ⌝ }
+    ensures { λ _. ⌜ (let X = def.design shape (now (starts .entry)) (now (rows .entry)) (now (values .entry)) in
+        now (buf .exit) ≡ tab (def.lipschitz X) (shape .p)) ⌝ }
 {
     all_squares(shape, starts, rows, values, buf);
     divide(shape.n, buf);
@@ -246,8 +256,10 @@ pub fn prepare(
     y: &[f64],
     buf: &mut [f64],
 )
-    requires { ⌜ (shape .n ≤ 65536) × (length (now buf) ≡ shape .p + shape .p) × Whole shape (now starts) (now rows) (now values) × (shape .n ≤ length (now y)) ⌝ }
-    ensures { λ _. ⌜ now (buf .exit) ≡ def.prepared (def.design shape (now (starts .entry)) (now (rows .entry)) (now (values .entry))) (now (y .entry)) ⌝ }
+    requires { ⌜ (shape .n ≤ 65536) × (length (now buf) ≡ shape .p + shape .p) × Whole shape (now starts) (now rows) (now values)
+        × (shape .n ≤ length (now y)) ⌝ }
+    ensures { λ _. ⌜ (let X = def.design shape (now (starts .entry)) (now (rows .entry)) (now (values .entry)) in
+        now (buf .exit) ≡ def.prepared X (now (y .entry))) ⌝ }
 {
     let p = shape.p;
     constants(shape, starts, rows, values, &mut buf[..p]);
@@ -277,8 +289,8 @@ pub fn alpha_max(
     xty: &mut [f64],
 ) -> f64
     requires { ⌜ (shape .n ≤ 65536) × (length (now xty) ≡ shape .p) × Whole shape (now starts) (now rows) (now values) × (shape .n ≤ length (now y)) ⌝ }
-    ensures { λ r. ⌜ (r ≡ def.alphaMax (def.design shape (now (starts .entry)) (now (rows .entry)) (now (values .entry))) (now (y .entry)))
-        × (now (xty .exit) ≡ def.dots (def.design shape (now (starts .entry)) (now (rows .entry)) (now (values .entry))) (now (y .entry))) ⌝ }
+    ensures { λ r. ⌜ (let X = def.design shape (now (starts .entry)) (now (rows .entry)) (now (values .entry)) in
+        (r ≡ def.alphaMax X (now (y .entry))) × (now (xty .exit) ≡ def.dots X (now (y .entry)))) ⌝ }
 {
     all_dots(shape, starts, rows, values, y, xty);
     let v = largest_abs(xty);

@@ -18,8 +18,10 @@ pub fn initialize(
     y: &[f64],
     prepared: &mut [f64],
 )
-    requires { ⌜ (shape .n ≤ 65536) × (shape .p + shape .p ≤ length (now prepared)) × Whole shape (now starts) (now rows) (now values) × (shape .n ≤ length (now y)) ⌝ }
-    ensures { λ _. ⌜ now (prepared .exit) ≡ put (now (prepared .entry)) 0 (def.prepared (def.design shape (now (starts .entry)) (now (rows .entry)) (now (values .entry))) (now (y .entry))) ⌝ }
+    requires { ⌜ (shape .n ≤ 65536) × (shape .p + shape .p ≤ length (now prepared)) × Whole shape (now starts) (now rows) (now values)
+        × (shape .n ≤ length (now y)) ⌝ }
+    ensures { λ _. ⌜ (let X = def.design shape (now (starts .entry)) (now (rows .entry)) (now (values .entry)) in
+        now (prepared .exit) ≡ put (now (prepared .entry)) 0 (def.prepared X (now (y .entry)))) ⌝ }
 {
     let room = shape.p + shape.p;
     passes::prepare(shape, starts, rows, values, y, &mut prepared[..room]);
@@ -34,8 +36,10 @@ pub fn gradient_j(
     fit: &[f64],
     feature: Feature,
 ) -> f64
-    requires { ⌜ (feature .0 < shape .p) × (shape .n ≤ 65536) × (shape .p + shape .p ≤ length (now prepared)) × Whole shape (now starts) (now rows) (now values) × (shape .n ≤ length (now fit)) ⌝ }
-    ensures { λ r. ⌜ r ≡ def.gradient (def.design shape (now (starts .entry)) (now (rows .entry)) (now (values .entry))) (feature .0) (now (fit .entry)) (num.at (now (prepared .entry)) (shape .p + feature .0)) ⌝ }
+    requires { ⌜ (feature .0 < shape .p) × (shape .n ≤ 65536) × (shape .p + shape .p ≤ length (now prepared))
+        × Whole shape (now starts) (now rows) (now values) × (shape .n ≤ length (now fit)) ⌝ }
+    ensures { λ r. ⌜ (let X = def.design shape (now (starts .entry)) (now (rows .entry)) (now (values .entry)) in
+        r ≡ def.gradient X (feature .0) (now (fit .entry)) (num.at (now (prepared .entry)) (shape .p + feature .0))) ⌝ }
 {
     let s = columns::column_dot(shape, starts, rows, values, feature, fit);
     let q = prepared[shape.p + feature.0];
@@ -51,8 +55,10 @@ pub fn full_grad(
     fit: &[f64],
     grad: &mut [f64],
 )
-    requires { ⌜ (shape .n ≤ 65536) × (shape .p + shape .p ≤ length (now prepared)) × Whole shape (now starts) (now rows) (now values) × (shape .n ≤ length (now fit)) × (shape .p ≤ length (now grad)) ⌝ }
-    ensures { λ _. ⌜ now (grad .exit) ≡ put (now (grad .entry)) 0 (def.fullGradient (def.design shape (now (starts .entry)) (now (rows .entry)) (now (values .entry))) (now (fit .entry)) (λ j. num.at (now (prepared .entry)) (shape .p + j))) ⌝ }
+    requires { ⌜ (shape .n ≤ 65536) × (shape .p + shape .p ≤ length (now prepared)) × Whole shape (now starts) (now rows) (now values)
+        × (shape .n ≤ length (now fit)) × (shape .p ≤ length (now grad)) ⌝ }
+    ensures { λ _. ⌜ (let X = def.design shape (now (starts .entry)) (now (rows .entry)) (now (values .entry)) in
+        now (grad .exit) ≡ put (now (grad .entry)) 0 (def.fullGradient X (now (fit .entry)) (λ j. num.at (now (prepared .entry)) (shape .p + j)))) ⌝ }
 {
     let p = shape.p;
     passes::all_gradients(shape, starts, rows, values, prepared, fit, &mut grad[..p]);
@@ -89,8 +95,10 @@ pub fn compute_extrapolated_fit(
     w: &[f64],
     fit: &mut [f64],
 )
-    requires { ⌜ ((k : ℕ) → k < length (now ws) → getD (now ws) k 0 < shape .p) × Whole shape (now starts) (now rows) (now values) × (shape .p ≤ length (now w)) × (shape .n ≤ length (now fit)) ⌝ }
-    ensures { λ _. ⌜ now (fit .exit) ≡ put (now (fit .entry)) 0 (def.extrapolated (def.design shape (now (starts .entry)) (now (rows .entry)) (now (values .entry))) (now (ws .entry)) (take (shape .p) (now (w .entry)))) ⌝ }
+    requires { ⌜ ((k : ℕ) → k < length (now ws) → getD (now ws) k 0 < shape .p) × Whole shape (now starts) (now rows) (now values)
+        × (shape .p ≤ length (now w)) × (shape .n ≤ length (now fit)) ⌝ }
+    ensures { λ _. ⌜ (let X = def.design shape (now (starts .entry)) (now (rows .entry)) (now (values .entry)) in
+        now (fit .exit) ≡ put (now (fit .entry)) 0 (def.extrapolated X (now (ws .entry)) (take (shape .p) (now (w .entry))))) ⌝ }
 {
     let n = shape.n;
     let p = shape.p;
@@ -107,8 +115,8 @@ pub fn largest_of(
     xty: &mut [f64],
 ) -> f64
     requires { ⌜ (shape .n ≤ 65536) × (shape .p ≤ length (now xty)) × Whole shape (now starts) (now rows) (now values) × (shape .n ≤ length (now y)) ⌝ }
-    ensures { λ r. ⌜ (r ≡ def.alphaMax (def.design shape (now (starts .entry)) (now (rows .entry)) (now (values .entry))) (now (y .entry)))
-        × (now (xty .exit) ≡ put (now (xty .entry)) 0 (def.dots (def.design shape (now (starts .entry)) (now (rows .entry)) (now (values .entry))) (now (y .entry)))) ⌝ }
+    ensures { λ r. ⌜ (let X = def.design shape (now (starts .entry)) (now (rows .entry)) (now (values .entry)) in
+        (r ≡ def.alphaMax X (now (y .entry))) × (now (xty .exit) ≡ put (now (xty .entry)) 0 (def.dots X (now (y .entry))))) ⌝ }
 {
     let p = shape.p;
     passes::alpha_max(shape, starts, rows, values, y, &mut xty[..p])
