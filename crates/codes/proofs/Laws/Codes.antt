@@ -19,7 +19,7 @@ use Rattle.runs.specs.declared.Fit.{Fit}
 use Rattle.runs.specs.declared.Fit.the-variants as Fit
 use Rattle.runs.specs.declared.Report.{Report}
 use Rattle.runs.specs.declared.Settings.{Settings}
-use Rattle.codes.specs.Codes.{numberOfFit, placeOfFit, reported, codedPenalty, codedSettings}
+use Rattle.codes.specs.Codes.{numberOfFault, placeOfFault, numberOfFit, placeOfFit, reported, codedPenalty, codedSettings}
 
 -- ---- the arms of a match on the answer
 pub refused-told : (d : Fit) (r : Refusal) (old : Report) → d ≡ Fit.Refused r
@@ -28,6 +28,11 @@ refused-told d r old h = rw h (refl, refl, refl)
 
 pub done-told : (d : Fit) (r old : Report) → d ≡ Fit.Done r → (0 ≡ numberOfFit (fitOf d)) × (0 ≡ placeOfFit (fitOf d)) × (r ≡ reported (fitOf d) old)
 done-told d r old h = rw h (refl, refl, refl)
+
+-- ---- a fault in numbers is that of the equal one
+pub same-told : {a f : Fault} {number place : ℕ} → a ≡ f → (number ≡ numberOfFault a) × (place ≡ placeOfFault a)
+    → (number ≡ numberOfFault f) × (place ≡ placeOfFault f)
+same-told e h = rw (← e) h
 
 -- ---- a call with a shape s and settings S that are those promised
 module _ (s s' : Shape) (starts rows : List ℕ) (values y : List Float) (S S' : Settings) (b : Lent) (hs : s ≡ s') (hS : S ≡ S') where
