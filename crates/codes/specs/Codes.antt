@@ -7,6 +7,8 @@ use Rattle.doubles.specs.Num.{pick}
 use Rattle.doubles.specs.Answer.{Outcome, refused, answered, Fault}
 use Rattle.leaves.specs.declared.penalties.separable.Penalty.{Penalty}
 use Rattle.leaves.specs.declared.penalties.separable.Penalty.the-variants.{L1, L1PlusL2, MCP}
+use Rattle.designs.specs.Given.{Given}
+use Rattle.runs.specs.Call.{Lent, fitCall, fitLeft}
 use Rattle.runs.specs.declared.Settings.{Settings}
 use Rattle.runs.specs.declared.Report.{Report}
 
@@ -57,3 +59,19 @@ reported (answered r) old = r
 abbrev pub report : ℕ → Float → ℕ → ℕ → ℕ → Report
 report status violation iterations epochs extrapolations =
     record { status = status; violation = violation; iterations = iterations; epochs = epochs; extrapolations = extrapolations }
+
+-- ---- all that a fit leaves its caller: number and place, the report's numbers, and the lent buffers
+pub record Reply : Type 0 where
+  pub number : ℕ
+  pub place : ℕ
+  pub report : Report
+  pub lent : Lent
+
+abbrev pub reply : ℕ → ℕ → Report → Lent → Reply
+reply number place r b = record { number = number; place = place; report = r; lent = b }
+
+-- of the whole call, where the report's numbers were `old`
+unfoldable pub fitReply : Given → Settings → Lent → Report → Reply
+fitReply g S b old =
+    let done = fitCall g S b in
+    reply (numberOfFit done) (placeOfFit done) (reported done old) (fitLeft g S b)

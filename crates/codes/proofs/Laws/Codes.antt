@@ -19,7 +19,7 @@ use Rattle.runs.specs.declared.Fit.{Fit}
 use Rattle.runs.specs.declared.Fit.the-variants as Fit
 use Rattle.runs.specs.declared.Report.{Report}
 use Rattle.runs.specs.declared.Settings.{Settings}
-use Rattle.codes.specs.Codes.{numberOfFault, placeOfFault, numberOfFit, placeOfFit, reported, codedPenalty, codedSettings}
+use Rattle.codes.specs.Codes.{numberOfFault, placeOfFault, numberOfFit, placeOfFit, reported, codedPenalty, codedSettings, reply, fitReply}
 
 -- ---- the arms of a match on the answer
 pub refused-told : (d : Fit) (r : Refusal) (old : Report) → d ≡ Fit.Refused r
@@ -34,17 +34,14 @@ pub same-told : {a f : Fault} {number place : ℕ} → a ≡ f → (number ≡ n
     → (number ≡ numberOfFault f) × (place ≡ placeOfFault f)
 same-told e h = rw (← e) h
 
--- ---- a call with a shape s and settings S that are those promised
-module _ (s s' : Shape) (starts rows : List ℕ) (values y : List Float) (S S' : Settings) (b : Lent) (hs : s ≡ s') (hS : S ≡ S') where
-  pub called : (o : Outcome Report) (number place : ℕ) (new old : Report) (l : Lent)
-      → o ≡ fitCall (given s starts rows values y) S b → l ≡ fitLeft (given s starts rows values y) S b
-      → number ≡ numberOfFit o → place ≡ placeOfFit o → new ≡ reported o old
-      → let g = given s' starts rows values y in
-      (number ≡ numberOfFit (fitCall g S' b))
-      × (place ≡ placeOfFit (fitCall g S' b))
-      × (new ≡ reported (fitCall g S' b) old)
-      × (l ≡ fitLeft g S' b)
-  called o number place new old l e k hn hp hr = rw (← hs, ← hS, ← e) (hn, hp, hr, k)
+-- ---- a call with a shape s and settings S that are those promised: its answer told, and what it left, are the reply
+module _ {s s' : Shape} (starts rows : List ℕ) (values y : List Float) {S S' : Settings} (b : Lent) (hs : s ≡ s') (hS : S ≡ S') where
+  pub called : {o : Outcome Report} {l : Lent} {number place : ℕ} {new : Report} (old : Report)
+      → (o ≡ fitCall (given s starts rows values y) S b) × (l ≡ fitLeft (given s starts rows values y) S b)
+      → (number ≡ numberOfFit o) × (place ≡ placeOfFit o) × (new ≡ reported o old)
+      → reply number place new l ≡ fitReply (given s' starts rows values y) S' b old
+  unfolding fitReply
+  called old done told = rw (← hs, ← hS, ← done .0, ← done .1, told .0, told .1, told .2)
 
 -- ---- a code that is no penalty's: 2 in its order
 no-penalty : (code : ℕ) (alpha second : Float) → 2 < code → penaltyFault (codedPenalty code alpha second) ≡ refused 2 0
