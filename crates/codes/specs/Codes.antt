@@ -4,20 +4,21 @@ use mathlib.Core.Bool.{not}
 use lib.Dec.{eqb}
 use lib.Ieee.{Float, nan}
 use Rattle.doubles.specs.Num.{pick}
-use Rattle.doubles.specs.Answer.{Outcome, refused, answered}
+use Rattle.doubles.specs.Answer.{Outcome, refused, answered, Fault}
 use Rattle.leaves.specs.declared.penalties.separable.Penalty.{Penalty}
 use Rattle.leaves.specs.declared.penalties.separable.Penalty.the-variants.{L1, L1PlusL2, MCP}
-use Rattle.doubles.specs.Answer.{refused, Fault, none}
+use Rattle.designs.specs.Given.{Given}
+use Rattle.runs.specs.Call.{Lent, fitCall, fitLeft}
 use Rattle.runs.specs.declared.Settings.{Settings}
 use Rattle.runs.specs.declared.Report.{Report}
 
 -- ---- a fault as two numbers: document 01's number and place, both 0 where there is none
 abbrev pub numberOfFault : Fault → ℕ
-numberOfFault none = 0
+numberOfFault (answered u) = 0
 numberOfFault (refused number place) = number
 
 abbrev pub placeOfFault : Fault → ℕ
-placeOfFault none = 0
+placeOfFault (answered u) = 0
 placeOfFault (refused number place) = place
 
 -- ---- the settings: "penalty 0 L1/1 L1PlusL2/2 MCP"; "second number (.. ignored for L1)"
@@ -25,14 +26,14 @@ placeOfFault (refused number place) = place
 abbrev pub noPenalty : Penalty
 noPenalty = L1 nan
 
-unfoldable pub penaltyOf : ℕ → Float → Float → Penalty
-penaltyOf code alpha second =
+unfoldable pub codedPenalty : ℕ → Float → Float → Penalty
+codedPenalty code alpha second =
     pick (eqb code 0) (L1 alpha) (pick (eqb code 1) (L1PlusL2 alpha second) (pick (eqb code 2) (MCP alpha second) noPenalty))
 
 -- extrapolation is off at 0, and on at any other number
-unfoldable pub settingsOf : ℕ → Float → Float → Float → ℕ → ℕ → ℕ → ℕ → ℕ → Settings
-settingsOf code alpha second tolerance start iterations epochs extrapolate depth = record {
-  penalty = penaltyOf code alpha second;
+unfoldable pub codedSettings : ℕ → Float → Float → Float → ℕ → ℕ → ℕ → ℕ → ℕ → Settings
+codedSettings code alpha second tolerance start iterations epochs extrapolate depth = record {
+  penalty = codedPenalty code alpha second;
   tolerance = tolerance;
   start = start;
   iterations = iterations;
@@ -58,3 +59,19 @@ reported (answered r) old = r
 abbrev pub report : ℕ → Float → ℕ → ℕ → ℕ → Report
 report status violation iterations epochs extrapolations =
     record { status = status; violation = violation; iterations = iterations; epochs = epochs; extrapolations = extrapolations }
+
+-- ---- all that a fit leaves its caller: number and place, the report's numbers, and the lent buffers
+pub record Reply : Type 0 where
+  pub number : ℕ
+  pub place : ℕ
+  pub report : Report
+  pub lent : Lent
+
+abbrev pub reply : ℕ → ℕ → Report → Lent → Reply
+reply number place r b = record { number = number; place = place; report = r; lent = b }
+
+-- of the whole call, where the report's numbers were `old`
+unfoldable pub fitReply : Given → Settings → Lent → Report → Reply
+fitReply g S b old =
+    let done = fitCall g S b in
+    reply (numberOfFit done) (placeOfFit done) (reported done old) (fitLeft g S b)

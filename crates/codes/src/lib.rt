@@ -37,7 +37,7 @@ pub fn csc(n: usize, p: usize) -> Shape
 
 // A code that is no penalty's gives one that the settings' test refuses: its alpha is NaN.
 pub fn penalty_of(code: u32, alpha: f64, second: f64) -> Penalty
-    ensures { λ r. ⌜ r ≡ codes.penaltyOf code alpha second ⌝ }
+    ensures { λ r. ⌜ r ≡ codes.codedPenalty code alpha second ⌝ }
 {
     if code == 0 {
         return Penalty::L1 { alpha: alpha };
@@ -68,7 +68,7 @@ pub fn settings_of(
     extrapolate: u32,
     depth: usize,
 ) -> Settings
-    ensures { λ r. ⌜ r ≡ codes.settingsOf penalty alpha second tolerance start iterations epochs extrapolate depth ⌝ }
+    ensures { λ r. ⌜ r ≡ codes.codedSettings penalty alpha second tolerance start iterations epochs extrapolate depth ⌝ }
 {
     Settings {
         penalty: penalty_of(penalty, alpha, second),

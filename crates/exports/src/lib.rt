@@ -1,13 +1,14 @@
 // Calls for programs in other languages: numbers, slices and references to numbers. A slice passes as a pointer and then a length. Each
 // answers document 01's refusal number, 0 where there is none; where a refusal has a place, it is left in `place`.
+ghost use mathlib.Core.List.{[]};
 ghost use mathlib.Core.Path.{_≡_};
 ghost use Rattle.doubles.specs.Answer.{left};
-ghost use Rattle.designs.specs.Design as def;
+ghost use Rattle.designs.specs.Design.{denseShape, cscShape, nothing};
+ghost use Rattle.designs.specs.Given.{given};
 ghost use Rattle.datafits.specs.Calls as calls;
 ghost use Rattle.runs.specs.Call as call;
 ghost use Rattle.runs.specs.WorkingSet as set;
 ghost use Rattle.worksets.specs.Call as sets;
-ghost use Rattle.solvers.specs.Buffers.{lent};
 ghost use Rattle.codes.specs.Codes as codes;
 ghost use Rattle.codes.specs.Codes.{numberOfFault, placeOfFault};
 use codes::csc;
@@ -50,16 +51,13 @@ pub extern "C" fn koyramutey_fit_dense(
     accepted: &mut usize,
     place: &mut usize,
 ) -> u32
-    ensures { λ r. ⌜ (let settings = codes.settingsOf penalty alpha second tolerance start iterations epochs extrapolate depth in
-        let buffers = lent (now (w .entry)) (now (fit .entry)) (now (indices .entry)) (now (scratch .entry)) in
+    ensures { λ r. ⌜ (let settings = codes.codedSettings penalty alpha second tolerance start iterations epochs extrapolate depth in
+        let g = given (denseShape n p) nothing nothing (now (values .entry)) (now (y .entry)) in
+        let b = call.lent (now (w .entry)) (now (fit .entry)) (now (indices .entry)) (now (scratch .entry)) in
         let old = codes.report (now (status .entry)) (now (violation .entry)) (now (sets .entry)) (now (passes .entry)) (now (accepted .entry)) in
         let new = codes.report (now (status .exit)) (now (violation .exit)) (now (sets .exit)) (now (passes .exit)) (now (accepted .exit)) in
-        let done = call.fitCall (def.denseShape n p) def.nothing def.nothing (now (values .entry)) (now (y .entry)) settings buffers in
-        (r ≡ codes.numberOfFit done)
-        × (now (place .exit) ≡ codes.placeOfFit done)
-        × (new ≡ codes.reported done old)
-        × (lent (now (w .exit)) (now (fit .exit)) (now (indices .exit)) (now (scratch .exit))
-        ≡ call.fitLeft (def.denseShape n p) def.nothing def.nothing (now (values .entry)) (now (y .entry)) settings buffers)) ⌝ }
+        codes.reply r (now (place .exit)) new (call.lent (now (w .exit)) (now (fit .exit)) (now (indices .exit)) (now (scratch .exit)))
+        ≡ codes.fitReply g settings b old) ⌝ }
 {
     let none = [0u32; 0];
     let settings = settings_of(
@@ -117,16 +115,13 @@ pub extern "C" fn koyramutey_fit_csc(
     accepted: &mut usize,
     place: &mut usize,
 ) -> u32
-    ensures { λ r. ⌜ (let settings = codes.settingsOf penalty alpha second tolerance start iterations epochs extrapolate depth in
-        let buffers = lent (now (w .entry)) (now (fit .entry)) (now (indices .entry)) (now (scratch .entry)) in
+    ensures { λ r. ⌜ (let settings = codes.codedSettings penalty alpha second tolerance start iterations epochs extrapolate depth in
+        let g = given (cscShape n p) (now (starts .entry)) (now (rows .entry)) (now (values .entry)) (now (y .entry)) in
+        let b = call.lent (now (w .entry)) (now (fit .entry)) (now (indices .entry)) (now (scratch .entry)) in
         let old = codes.report (now (status .entry)) (now (violation .entry)) (now (sets .entry)) (now (passes .entry)) (now (accepted .entry)) in
         let new = codes.report (now (status .exit)) (now (violation .exit)) (now (sets .exit)) (now (passes .exit)) (now (accepted .exit)) in
-        let done = call.fitCall (def.cscShape n p) (now (starts .entry)) (now (rows .entry)) (now (values .entry)) (now (y .entry)) settings buffers in
-        (r ≡ codes.numberOfFit done)
-        × (now (place .exit) ≡ codes.placeOfFit done)
-        × (new ≡ codes.reported done old)
-        × (lent (now (w .exit)) (now (fit .exit)) (now (indices .exit)) (now (scratch .exit))
-        ≡ call.fitLeft (def.cscShape n p) (now (starts .entry)) (now (rows .entry)) (now (values .entry)) (now (y .entry)) settings buffers)) ⌝ }
+        codes.reply r (now (place .exit)) new (call.lent (now (w .exit)) (now (fit .exit)) (now (indices .exit)) (now (scratch .exit)))
+        ≡ codes.fitReply g settings b old) ⌝ }
 {
     let settings = settings_of(
         penalty,
@@ -167,12 +162,11 @@ pub extern "C" fn koyramutey_full_grad_dense(
     grad: &mut [f64],
     place: &mut usize,
 ) -> u32
-    ensures { λ r. ⌜ (let shape = def.denseShape n p in
-        let X = now (values .entry) in
-        let fault = calls.fullGradFault shape def.nothing def.nothing X (now (prepared .entry)) (now (fit .entry)) (now (grad .entry)) in
+    ensures { λ r. ⌜ (let g = given (denseShape n p) nothing nothing (now (values .entry)) [] in
+        let fault = calls.fullGradFault g (now (prepared .entry)) (now (fit .entry)) (now (grad .entry)) in
         (r ≡ numberOfFault fault)
         × (now (place .exit) ≡ placeOfFault fault)
-        × (now (grad .exit) ≡ calls.fullGrad shape def.nothing def.nothing X (now (prepared .entry)) (now (fit .entry)) (now (grad .entry)))) ⌝ }
+        × (now (grad .exit) ≡ calls.fullGrad g (now (prepared .entry)) (now (fit .entry)) (now (grad .entry)))) ⌝ }
 {
     let none = [0u32; 0];
     let verdict = datafits::full_grad(dense(n, p), &none, &none, values, prepared, fit, grad);

@@ -11,9 +11,9 @@ use columns::column_dot;
 use columns::column_update;
 use designs::Feature;
 use designs::inner::sizes_agree;
-use doubles::Refusal;
 use doubles::Verdict;
 use doubles::inner::both;
+use doubles::inner::refused;
 
 // 1 and 3, where the list that the column meets has so many places.
 fn admit_column(n: usize, p: usize, values: &[f64], column: usize, places: usize) -> Verdict
@@ -24,15 +24,9 @@ fn admit_column(n: usize, p: usize, values: &[f64], column: usize, places: usize
         if n <= places {
             return Verdict::Fine;
         }
-        return Verdict::Refused(Refusal {
-            number: 3,
-            place: 0,
-        });
+        return refused(3, 0);
     }
-    Verdict::Refused(Refusal {
-        number: 1,
-        place: 0,
-    })
+    refused(1, 0)
 }
 
 // The product of a column and v.
@@ -46,9 +40,10 @@ pub extern "C" fn kernel_column_product_dense(
     product: &mut f64,
     place: &mut usize,
 ) -> u32
-    ensures { λ r. ⌜ (r ≡ numberOfFault (kernels.kernelFault n p (now (values .entry)) column (length (now (v .entry)))))
-        × (now (place .exit) ≡ placeOfFault (kernels.kernelFault n p (now (values .entry)) column (length (now (v .entry)))))
-        × (now (product .exit) ≡ kernels.productLeft n p (now (values .entry)) column (now (v .entry)) (now (product .entry))) ⌝ }
+    ensures { λ r. ⌜ (let fault = kernels.kernelFault n p (now (values .entry)) column (length (now (v .entry))) in
+        (r ≡ numberOfFault fault)
+        × (now (place .exit) ≡ placeOfFault fault)
+        × (now (product .exit) ≡ kernels.productLeft n p (now (values .entry)) column (now (v .entry)) (now (product .entry)))) ⌝ }
 {
     let none = [0u32; 0];
     let verdict = admit_column(n, p, values, column, v.len());
@@ -70,9 +65,10 @@ pub extern "C" fn kernel_column_update_dense(
     fit: &mut [f64],
     place: &mut usize,
 ) -> u32
-    ensures { λ r. ⌜ (r ≡ numberOfFault (kernels.kernelFault n p (now (values .entry)) column (length (now (fit .entry)))))
-        × (now (place .exit) ≡ placeOfFault (kernels.kernelFault n p (now (values .entry)) column (length (now (fit .entry)))))
-        × (now (fit .exit) ≡ kernels.updateLeft n p (now (values .entry)) column difference (now (fit .entry))) ⌝ }
+    ensures { λ r. ⌜ (let fault = kernels.kernelFault n p (now (values .entry)) column (length (now (fit .entry))) in
+        (r ≡ numberOfFault fault)
+        × (now (place .exit) ≡ placeOfFault fault)
+        × (now (fit .exit) ≡ kernels.updateLeft n p (now (values .entry)) column difference (now (fit .entry)))) ⌝ }
 {
     let none = [0u32; 0];
     let verdict = admit_column(n, p, values, column, fit.len());

@@ -10,10 +10,9 @@ use prog.Memory.{Memory}
 use prog.Routine.{Routine}
 use prog.Wp.{Heap}
 use denote.Ref.{now}
-use Rattle.doubles.proofs.Tight.{coincide, one-number}
+use Rattle.doubles.proofs.Tight.{coincide, one-number, one-verdict}
 use Rattle.doubles.specs.declared.Number.{Number}
 use Rattle.doubles.specs.declared.Verdict.{Verdict}
-use Rattle.doubles.proofs.Tight.{one-verdict}
 use Rattle.runs.specs.Call.{Lent}
 use Rattle.runs.specs.declared.Fit.{Fit}
 use Rattle.solvers.proofs.Tight.{one-fit}

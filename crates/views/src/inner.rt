@@ -1,12 +1,12 @@
 // The work of the thin calls, on the slices of a view: each makes the shape of a CSC design and calls the public call of the crate below. All three
 // slices have the view's lifetime.
+ghost use mathlib.Core.List.{[]};
 ghost use mathlib.Core.Path.{_≡_};
-ghost use Rattle.doubles.specs.Answer.{numberOf};
-ghost use Rattle.designs.specs.Design as def;
-ghost use Rattle.doubles.specs.Answer.{verdictOf};
+ghost use Rattle.doubles.specs.Answer.{numberOf, verdictOf};
+ghost use Rattle.designs.specs.Design.{cscShape};
+ghost use Rattle.designs.specs.Given.{given};
 ghost use Rattle.datafits.specs.Calls as calls;
 ghost use Rattle.runs.specs.Call as call;
-ghost use Rattle.solvers.specs.Buffers.{lent};
 ghost use Rattle.views.specs.Check.{designFault};
 use designs::Feature;
 use designs::Layout;
@@ -24,7 +24,7 @@ pub fn check<'a>(
     n: usize,
     p: usize,
 ) -> Verdict
-    ensures { λ r. ⌜ verdictOf r ≡ designFault n p (now (starts .entry)) (now (rows .entry)) (now (values .entry)) ⌝ }
+    ensures { λ r. ⌜ verdictOf r ≡ designFault (given (cscShape n p) (now (starts .entry)) (now (rows .entry)) (now (values .entry)) []) ⌝ }
 {
     let shape = Shape {
         layout: Layout::Csc,
@@ -47,12 +47,10 @@ pub fn coordinate_descent<'a, 'b, 'c, 'd, 'e, 'f>(
     indices: &'e mut [u32],
     scratch: &'f mut [f64],
 ) -> Fit
-    ensures { λ r. ⌜ (let shape = def.cscShape n p in
-        let starts₀ = now (starts .entry) in let rows₀ = now (rows .entry) in let values₀ = now (values .entry) in
-        let buffers = lent (now (w .entry)) (now (fit .entry)) (now (indices .entry)) (now (scratch .entry)) in
-        (call.fitOf r ≡ call.fitCall shape starts₀ rows₀ values₀ (now (y .entry)) settings buffers)
-        × (lent (now (w .exit)) (now (fit .exit)) (now (indices .exit)) (now (scratch .exit))
-        ≡ call.fitLeft shape starts₀ rows₀ values₀ (now (y .entry)) settings buffers)) ⌝ }
+    ensures { λ r. ⌜ (let g = given (cscShape n p) (now (starts .entry)) (now (rows .entry)) (now (values .entry)) (now (y .entry)) in
+        let b = call.lent (now (w .entry)) (now (fit .entry)) (now (indices .entry)) (now (scratch .entry)) in
+        (call.fitOf r ≡ call.fitCall g settings b)
+        × (call.lent (now (w .exit)) (now (fit .exit)) (now (indices .exit)) (now (scratch .exit)) ≡ call.fitLeft g settings b)) ⌝ }
 {
     let shape = Shape {
         layout: Layout::Csc,
@@ -82,10 +80,9 @@ pub fn compute_alpha_max<'a, 'b, 'c>(
     y: &'b [f64],
     xty: &'c mut [f64],
 ) -> Number
-    ensures { λ r. ⌜ (let shape = def.cscShape n p in
-        let starts₀ = now (starts .entry) in let rows₀ = now (rows .entry) in let values₀ = now (values .entry) in
-        (numberOf r ≡ calls.alphaMaxCall shape starts₀ rows₀ values₀ (now (y .entry)) (now (xty .entry)))
-        × (now (xty .exit) ≡ calls.alphaMaxLeft shape starts₀ rows₀ values₀ (now (y .entry)) (now (xty .entry)))) ⌝ }
+    ensures { λ r. ⌜ (let g = given (cscShape n p) (now (starts .entry)) (now (rows .entry)) (now (values .entry)) (now (y .entry)) in
+        (numberOf r ≡ calls.alphaMaxCall g (now (xty .entry)))
+        × (now (xty .exit) ≡ calls.alphaMaxLeft g (now (xty .entry)))) ⌝ }
 {
     datafits::compute_alpha_max_sparse(n, p, starts, rows, values, y, xty)
 }
@@ -99,10 +96,9 @@ pub fn initialize<'a, 'b, 'c>(
     y: &'b [f64],
     prepared: &'c mut [f64],
 ) -> Verdict
-    ensures { λ r. ⌜ (let shape = def.cscShape n p in
-        let starts₀ = now (starts .entry) in let rows₀ = now (rows .entry) in let values₀ = now (values .entry) in
-        (verdictOf r ≡ calls.initializeFault shape starts₀ rows₀ values₀ (now (y .entry)) (now (prepared .entry)))
-        × (now (prepared .exit) ≡ calls.initialized shape starts₀ rows₀ values₀ (now (y .entry)) (now (prepared .entry)))) ⌝ }
+    ensures { λ r. ⌜ (let g = given (cscShape n p) (now (starts .entry)) (now (rows .entry)) (now (values .entry)) (now (y .entry)) in
+        (verdictOf r ≡ calls.initializeFault g (now (prepared .entry)))
+        × (now (prepared .exit) ≡ calls.initialized g (now (prepared .entry)))) ⌝ }
 {
     let shape = Shape {
         layout: Layout::Csc,
@@ -122,9 +118,8 @@ pub fn gradient_j<'a, 'b, 'c>(
     fit: &'c [f64],
     feature: Feature,
 ) -> Number
-    ensures { λ r. ⌜ (let shape = def.cscShape n p in
-        let starts₀ = now (starts .entry) in let rows₀ = now (rows .entry) in let values₀ = now (values .entry) in
-        numberOf r ≡ calls.gradientCall shape starts₀ rows₀ values₀ (now (prepared .entry)) (now (fit .entry)) (feature .0)) ⌝ }
+    ensures { λ r. ⌜ (let g = given (cscShape n p) (now (starts .entry)) (now (rows .entry)) (now (values .entry)) [] in
+        numberOf r ≡ calls.gradientCall g (now (prepared .entry)) (now (fit .entry)) (feature .0)) ⌝ }
 {
     let shape = Shape {
         layout: Layout::Csc,
@@ -144,10 +139,9 @@ pub fn full_grad<'a, 'b, 'c, 'd>(
     fit: &'c [f64],
     grad: &'d mut [f64],
 ) -> Verdict
-    ensures { λ r. ⌜ (let shape = def.cscShape n p in
-        let starts₀ = now (starts .entry) in let rows₀ = now (rows .entry) in let values₀ = now (values .entry) in
-        (verdictOf r ≡ calls.fullGradFault shape starts₀ rows₀ values₀ (now (prepared .entry)) (now (fit .entry)) (now (grad .entry)))
-        × (now (grad .exit) ≡ calls.fullGrad shape starts₀ rows₀ values₀ (now (prepared .entry)) (now (fit .entry)) (now (grad .entry)))) ⌝ }
+    ensures { λ r. ⌜ (let g = given (cscShape n p) (now (starts .entry)) (now (rows .entry)) (now (values .entry)) [] in
+        (verdictOf r ≡ calls.fullGradFault g (now (prepared .entry)) (now (fit .entry)) (now (grad .entry)))
+        × (now (grad .exit) ≡ calls.fullGrad g (now (prepared .entry)) (now (fit .entry)) (now (grad .entry)))) ⌝ }
 {
     let shape = Shape {
         layout: Layout::Csc,
@@ -167,10 +161,9 @@ pub fn update_model_fit<'a, 'b>(
     diff: f64,
     feature: Feature,
 ) -> Verdict
-    ensures { λ r. ⌜ (let shape = def.cscShape n p in
-        let starts₀ = now (starts .entry) in let rows₀ = now (rows .entry) in let values₀ = now (values .entry) in
-        (verdictOf r ≡ calls.updateFault shape starts₀ rows₀ values₀ (now (fit .entry)) (feature .0))
-        × (now (fit .exit) ≡ calls.updated shape starts₀ rows₀ values₀ (now (fit .entry)) diff (feature .0))) ⌝ }
+    ensures { λ r. ⌜ (let g = given (cscShape n p) (now (starts .entry)) (now (rows .entry)) (now (values .entry)) [] in
+        (verdictOf r ≡ calls.updateFault g (now (fit .entry)) (feature .0))
+        × (now (fit .exit) ≡ calls.updated g (now (fit .entry)) diff (feature .0))) ⌝ }
 {
     let shape = Shape {
         layout: Layout::Csc,
@@ -190,10 +183,9 @@ pub fn compute_extrapolated_fit<'a, 'b, 'c, 'd>(
     w: &'c [f64],
     fit: &'d mut [f64],
 ) -> Verdict
-    ensures { λ r. ⌜ (let shape = def.cscShape n p in
-        let starts₀ = now (starts .entry) in let rows₀ = now (rows .entry) in let values₀ = now (values .entry) in
-        (verdictOf r ≡ calls.extrapolatedFault shape starts₀ rows₀ values₀ (now (ws .entry)) (now (w .entry)) (now (fit .entry)))
-        × (now (fit .exit) ≡ calls.extrapolatedFit shape starts₀ rows₀ values₀ (now (ws .entry)) (now (w .entry)) (now (fit .entry)))) ⌝ }
+    ensures { λ r. ⌜ (let g = given (cscShape n p) (now (starts .entry)) (now (rows .entry)) (now (values .entry)) [] in
+        (verdictOf r ≡ calls.extrapolatedFault g (now (ws .entry)) (now (w .entry)) (now (fit .entry)))
+        × (now (fit .exit) ≡ calls.extrapolatedFit g (now (ws .entry)) (now (w .entry)) (now (fit .entry)))) ⌝ }
 {
     let shape = Shape {
         layout: Layout::Csc,

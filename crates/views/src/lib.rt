@@ -1,12 +1,12 @@
 // A sparse design as one view: its three slices travel together. Each call over a view is thin: it takes the view apart, and `inner` does the work
 // on the slices, as the public call of the crate below for a CSC design.
+ghost use mathlib.Core.List.{[]};
 ghost use mathlib.Core.Path.{_≡_};
-ghost use Rattle.doubles.specs.Answer.{numberOf};
-ghost use Rattle.designs.specs.Design as def;
-ghost use Rattle.doubles.specs.Answer.{verdictOf};
+ghost use Rattle.doubles.specs.Answer.{numberOf, verdictOf};
+ghost use Rattle.designs.specs.Design.{cscShape};
+ghost use Rattle.designs.specs.Given.{given};
 ghost use Rattle.datafits.specs.Calls as calls;
 ghost use Rattle.runs.specs.Call as call;
-ghost use Rattle.solvers.specs.Buffers.{lent};
 ghost use Rattle.views.specs.Check.{designFault};
 use designs::Feature;
 use doubles::Number;
@@ -35,7 +35,7 @@ pub fn new<'a>(starts: &'a [u32], rows: &'a [u32], values: &'a [f64]) -> CSCArra
 
 // The check of a design alone: refusals 1, 4, 5 and 6.
 pub fn check<'a>(x: CSCArray<'a>, n: usize, p: usize) -> Verdict
-    ensures { λ r. ⌜ verdictOf r ≡ designFault n p (now (x .entry .starts)) (now (x .entry .rows)) (now (x .entry .values)) ⌝ }
+    ensures { λ r. ⌜ verdictOf r ≡ designFault (given (cscShape n p) (now (x .entry .starts)) (now (x .entry .rows)) (now (x .entry .values)) []) ⌝ }
 {
     inner::check(x.starts, x.rows, x.values, n, p)
 }
@@ -52,12 +52,10 @@ pub fn coordinate_descent_sparse<'a, 'b, 'c, 'd, 'e, 'f>(
     indices: &'e mut [u32],
     scratch: &'f mut [f64],
 ) -> Fit
-    ensures { λ r. ⌜ (let shape = def.cscShape n p in
-        let starts₀ = now (x .entry .starts) in let rows₀ = now (x .entry .rows) in let values₀ = now (x .entry .values) in
-        let buffers = lent (now (w .entry)) (now (fit .entry)) (now (indices .entry)) (now (scratch .entry)) in
-        (call.fitOf r ≡ call.fitCall shape starts₀ rows₀ values₀ (now (y .entry)) settings buffers)
-        × (lent (now (w .exit)) (now (fit .exit)) (now (indices .exit)) (now (scratch .exit))
-        ≡ call.fitLeft shape starts₀ rows₀ values₀ (now (y .entry)) settings buffers)) ⌝ }
+    ensures { λ r. ⌜ (let g = given (cscShape n p) (now (x .entry .starts)) (now (x .entry .rows)) (now (x .entry .values)) (now (y .entry)) in
+        let b = call.lent (now (w .entry)) (now (fit .entry)) (now (indices .entry)) (now (scratch .entry)) in
+        (call.fitOf r ≡ call.fitCall g settings b)
+        × (call.lent (now (w .exit)) (now (fit .exit)) (now (indices .exit)) (now (scratch .exit)) ≡ call.fitLeft g settings b)) ⌝ }
 {
     inner::coordinate_descent(
         x.starts,
@@ -82,10 +80,9 @@ pub fn compute_alpha_max_sparse<'a, 'b, 'c>(
     y: &'b [f64],
     xty: &'c mut [f64],
 ) -> Number
-    ensures { λ r. ⌜ (let shape = def.cscShape n p in
-        let starts₀ = now (x .entry .starts) in let rows₀ = now (x .entry .rows) in let values₀ = now (x .entry .values) in
-        (numberOf r ≡ calls.alphaMaxCall shape starts₀ rows₀ values₀ (now (y .entry)) (now (xty .entry)))
-        × (now (xty .exit) ≡ calls.alphaMaxLeft shape starts₀ rows₀ values₀ (now (y .entry)) (now (xty .entry)))) ⌝ }
+    ensures { λ r. ⌜ (let g = given (cscShape n p) (now (x .entry .starts)) (now (x .entry .rows)) (now (x .entry .values)) (now (y .entry)) in
+        (numberOf r ≡ calls.alphaMaxCall g (now (xty .entry)))
+        × (now (xty .exit) ≡ calls.alphaMaxLeft g (now (xty .entry)))) ⌝ }
 {
     inner::compute_alpha_max(x.starts, x.rows, x.values, n, p, y, xty)
 }
@@ -98,10 +95,9 @@ pub fn initialize_sparse<'a, 'b, 'c>(
     y: &'b [f64],
     prepared: &'c mut [f64],
 ) -> Verdict
-    ensures { λ r. ⌜ (let shape = def.cscShape n p in
-        let starts₀ = now (x .entry .starts) in let rows₀ = now (x .entry .rows) in let values₀ = now (x .entry .values) in
-        (verdictOf r ≡ calls.initializeFault shape starts₀ rows₀ values₀ (now (y .entry)) (now (prepared .entry)))
-        × (now (prepared .exit) ≡ calls.initialized shape starts₀ rows₀ values₀ (now (y .entry)) (now (prepared .entry)))) ⌝ }
+    ensures { λ r. ⌜ (let g = given (cscShape n p) (now (x .entry .starts)) (now (x .entry .rows)) (now (x .entry .values)) (now (y .entry)) in
+        (verdictOf r ≡ calls.initializeFault g (now (prepared .entry)))
+        × (now (prepared .exit) ≡ calls.initialized g (now (prepared .entry)))) ⌝ }
 {
     inner::initialize(x.starts, x.rows, x.values, n, p, y, prepared)
 }
@@ -115,9 +111,8 @@ pub fn gradient_j_sparse<'a, 'b, 'c>(
     fit: &'c [f64],
     feature: Feature,
 ) -> Number
-    ensures { λ r. ⌜ (let shape = def.cscShape n p in
-        let starts₀ = now (x .entry .starts) in let rows₀ = now (x .entry .rows) in let values₀ = now (x .entry .values) in
-        numberOf r ≡ calls.gradientCall shape starts₀ rows₀ values₀ (now (prepared .entry)) (now (fit .entry)) (feature .0)) ⌝ }
+    ensures { λ r. ⌜ (let g = given (cscShape n p) (now (x .entry .starts)) (now (x .entry .rows)) (now (x .entry .values)) [] in
+        numberOf r ≡ calls.gradientCall g (now (prepared .entry)) (now (fit .entry)) (feature .0)) ⌝ }
 {
     inner::gradient_j(x.starts, x.rows, x.values, n, p, prepared, fit, feature)
 }
@@ -131,10 +126,9 @@ pub fn full_grad_sparse<'a, 'b, 'c, 'd>(
     fit: &'c [f64],
     grad: &'d mut [f64],
 ) -> Verdict
-    ensures { λ r. ⌜ (let shape = def.cscShape n p in
-        let starts₀ = now (x .entry .starts) in let rows₀ = now (x .entry .rows) in let values₀ = now (x .entry .values) in
-        (verdictOf r ≡ calls.fullGradFault shape starts₀ rows₀ values₀ (now (prepared .entry)) (now (fit .entry)) (now (grad .entry)))
-        × (now (grad .exit) ≡ calls.fullGrad shape starts₀ rows₀ values₀ (now (prepared .entry)) (now (fit .entry)) (now (grad .entry)))) ⌝ }
+    ensures { λ r. ⌜ (let g = given (cscShape n p) (now (x .entry .starts)) (now (x .entry .rows)) (now (x .entry .values)) [] in
+        (verdictOf r ≡ calls.fullGradFault g (now (prepared .entry)) (now (fit .entry)) (now (grad .entry)))
+        × (now (grad .exit) ≡ calls.fullGrad g (now (prepared .entry)) (now (fit .entry)) (now (grad .entry)))) ⌝ }
 {
     inner::full_grad(x.starts, x.rows, x.values, n, p, prepared, fit, grad)
 }
@@ -148,10 +142,9 @@ pub fn update_model_fit_sparse<'a, 'b>(
     diff: f64,
     feature: Feature,
 ) -> Verdict
-    ensures { λ r. ⌜ (let shape = def.cscShape n p in
-        let starts₀ = now (x .entry .starts) in let rows₀ = now (x .entry .rows) in let values₀ = now (x .entry .values) in
-        (verdictOf r ≡ calls.updateFault shape starts₀ rows₀ values₀ (now (fit .entry)) (feature .0))
-        × (now (fit .exit) ≡ calls.updated shape starts₀ rows₀ values₀ (now (fit .entry)) diff (feature .0))) ⌝ }
+    ensures { λ r. ⌜ (let g = given (cscShape n p) (now (x .entry .starts)) (now (x .entry .rows)) (now (x .entry .values)) [] in
+        (verdictOf r ≡ calls.updateFault g (now (fit .entry)) (feature .0))
+        × (now (fit .exit) ≡ calls.updated g (now (fit .entry)) diff (feature .0))) ⌝ }
 {
     inner::update_model_fit(x.starts, x.rows, x.values, n, p, fit, diff, feature)
 }
@@ -165,10 +158,9 @@ pub fn compute_extrapolated_fit_sparse<'a, 'b, 'c, 'd>(
     w: &'c [f64],
     fit: &'d mut [f64],
 ) -> Verdict
-    ensures { λ r. ⌜ (let shape = def.cscShape n p in
-        let starts₀ = now (x .entry .starts) in let rows₀ = now (x .entry .rows) in let values₀ = now (x .entry .values) in
-        (verdictOf r ≡ calls.extrapolatedFault shape starts₀ rows₀ values₀ (now (ws .entry)) (now (w .entry)) (now (fit .entry)))
-        × (now (fit .exit) ≡ calls.extrapolatedFit shape starts₀ rows₀ values₀ (now (ws .entry)) (now (w .entry)) (now (fit .entry)))) ⌝ }
+    ensures { λ r. ⌜ (let g = given (cscShape n p) (now (x .entry .starts)) (now (x .entry .rows)) (now (x .entry .values)) [] in
+        (verdictOf r ≡ calls.extrapolatedFault g (now (ws .entry)) (now (w .entry)) (now (fit .entry)))
+        × (now (fit .exit) ≡ calls.extrapolatedFit g (now (ws .entry)) (now (w .entry)) (now (fit .entry)))) ⌝ }
 {
     inner::compute_extrapolated_fit(x.starts, x.rows, x.values, n, p, ws, w, fit)
 }

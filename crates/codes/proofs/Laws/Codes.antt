@@ -1,22 +1,25 @@
--- A fit's answer in numbers, and a penalty's code. Assumes nothing.
+-- A fit's answer in numbers, by its cases; and a code that is no penalty's, which every test in front of the penalty's refuses with the same number.
+-- Assumes nothing.
 use mathlib.Core.Path.{_≡_, refl}
 use mathlib.Core.Bool.{Bool, true, false}
 use mathlib.Core.List.{List}
 use Prim.Native.Nat.{ℕ, _<_}
 use native.Mathlib.Omega.{arith}
 use borrow.Author.Tests.{ne-eqb}
+use lib.Dec.{leb}
 use lib.Ieee.{Float}
 use Rattle.doubles.specs.Num.{_and_, finite}
-use Rattle.doubles.specs.Answer.{Outcome}
-use Rattle.leaves.specs.Penalty.{alphaLegal, legal}
+use Rattle.doubles.specs.Answer.{Outcome, refused, Fault, unless}
 use Rattle.doubles.specs.declared.Refusal.{Refusal}
+use Rattle.leaves.specs.Penalty.{alphaLegal, penaltyFault}
+use Rattle.designs.specs.Given.{given}
 use Rattle.designs.specs.declared.Shape.{Shape}
-use Rattle.runs.specs.Call.{Lent, fitCall, fitLeft, fitOf, settingsLegal}
+use Rattle.runs.specs.Call.{Lent, fitCall, fitLeft, fitOf, settingsFault, startLegal, depthLegal}
 use Rattle.runs.specs.declared.Fit.{Fit}
 use Rattle.runs.specs.declared.Fit.the-variants as Fit
 use Rattle.runs.specs.declared.Report.{Report}
 use Rattle.runs.specs.declared.Settings.{Settings}
-use Rattle.codes.specs.Codes.{numberOfFit, placeOfFit, reported, penaltyOf, settingsOf}
+use Rattle.codes.specs.Codes.{numberOfFault, placeOfFault, numberOfFit, placeOfFit, reported, codedPenalty, codedSettings, reply, fitReply}
 
 -- ---- the arms of a match on the answer
 pub refused-told : (d : Fit) (r : Refusal) (old : Report) → d ≡ Fit.Refused r
@@ -26,30 +29,39 @@ refused-told d r old h = rw h (refl, refl, refl)
 pub done-told : (d : Fit) (r old : Report) → d ≡ Fit.Done r → (0 ≡ numberOfFit (fitOf d)) × (0 ≡ placeOfFit (fitOf d)) × (r ≡ reported (fitOf d) old)
 done-told d r old h = rw h (refl, refl, refl)
 
--- ---- a call with a shape s and settings S that are those promised
-module _ (s s' : Shape) (starts rows : List ℕ) (values y : List Float) (S S' : Settings) (b : Lent) (hs : s ≡ s') (hS : S ≡ S') where
-  pub called : (o : Outcome Report) (number place : ℕ) (new old : Report) (l : Lent)
-      → o ≡ fitCall s starts rows values y S b → l ≡ fitLeft s starts rows values y S b
-      → number ≡ numberOfFit o → place ≡ placeOfFit o → new ≡ reported o old
-      → (number ≡ numberOfFit (fitCall s' starts rows values y S' b))
-      × (place ≡ placeOfFit (fitCall s' starts rows values y S' b))
-      × (new ≡ reported (fitCall s' starts rows values y S' b) old)
-      × (l ≡ fitLeft s' starts rows values y S' b)
-  called o number place new old l e k hn hp hr = rw (← hs, ← hS, ← e) (hn, hp, hr, k)
+-- ---- a fault in numbers is that of the equal one
+pub same-told : {a f : Fault} {number place : ℕ} → a ≡ f → (number ≡ numberOfFault a) × (place ≡ placeOfFault a)
+    → (number ≡ numberOfFault f) × (place ≡ placeOfFault f)
+same-told e h = rw (← e) h
+
+-- ---- a call with a shape s and settings S that are those promised: its answer told, and what it left, are the reply
+module _ {s s' : Shape} (starts rows : List ℕ) (values y : List Float) {S S' : Settings} (b : Lent) (hs : s ≡ s') (hS : S ≡ S') where
+  pub called : {o : Outcome Report} {l : Lent} {number place : ℕ} {new : Report} (old : Report)
+      → (o ≡ fitCall (given s starts rows values y) S b) × (l ≡ fitLeft (given s starts rows values y) S b)
+      → (number ≡ numberOfFit o) × (place ≡ placeOfFit o) × (new ≡ reported o old)
+      → reply number place new l ≡ fitReply (given s' starts rows values y) S' b old
+  unfolding fitReply
+  called old done told = rw (← hs, ← hS, ← done .0, ← done .1, told .0, told .1, told .2)
 
 -- ---- a code that is no penalty's: 2 in its order
-no-penalty : (code : ℕ) (alpha second : Float) → 2 < code → legal (penaltyOf code alpha second) ≡ false
-unfolding penaltyOf legal alphaLegal finite _and_
+no-penalty : (code : ℕ) (alpha second : Float) → 2 < code → penaltyFault (codedPenalty code alpha second) ≡ refused 2 0
+unfolding codedPenalty penaltyFault alphaLegal finite _and_
 no-penalty code alpha second h =
     rw (ne-eqb code 0 (λ z. omega (arith, z)), ne-eqb code 1 (λ z. omega (arith, z)), ne-eqb code 2 (λ z. omega (arith, z)))
 
-not-last : (a b : Bool) → b ≡ false → (a and b) ≡ false
-unfolding _and_
-not-last true b h = h
-not-last false b h = refl
+-- a test that gives 2, in front of what gives 2
+still : (b : Bool) {f : Fault} → f ≡ refused 2 0 → unless b 2 f ≡ refused 2 0
+still true h = h
+still false h = refl
+
+-- so the settings' tests give 2, whichever refuses
+last-refused : (S : Settings) → penaltyFault (S .penalty) ≡ refused 2 0 → settingsFault S ≡ refused 2 0
+unfolding settingsFault
+last-refused S h =
+    let depth = still (depthLegal S) (still (alphaLegal (S .tolerance)) h) in
+    still (leb (S .iterations) 1000) (still (leb (S .epochs) 100000) (still (startLegal S) depth))
 
 pub no-settings : (code : ℕ) (alpha second tolerance : Float) (start iterations epochs extrapolate depth : ℕ) → 2 < code
-    → settingsLegal (settingsOf code alpha second tolerance start iterations epochs extrapolate depth) ≡ false
-unfolding settingsLegal settingsOf
-no-settings code alpha second tolerance start iterations epochs extrapolate depth h =
-    not-last _ _ (not-last _ _ (not-last _ _ (not-last _ _ (not-last _ _ (not-last _ _ (no-penalty code alpha second h))))))
+    → settingsFault (codedSettings code alpha second tolerance start iterations epochs extrapolate depth) ≡ refused 2 0
+unfolding codedSettings
+no-settings code alpha second tolerance start iterations epochs extrapolate depth h = last-refused _ (no-penalty code alpha second h)

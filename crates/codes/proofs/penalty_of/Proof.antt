@@ -1,24 +1,24 @@
 -- `penalty_of`: by the code. Assumes nothing.
 use lib.Ieee.{div, ofBits}
 use borrow.Author.Tests.{eq-eqb, ne-eqb}
-use Rattle.codes.specs.Codes.{penaltyOf}
+use Rattle.codes.specs.Codes.{codedPenalty}
 use Rattle.codes.proofs.penalty_of.Statement.{statement}
 use Rattle.codes.proofs.penalty_of.Tie as tie
 
 returns : tie.Need-returns
-unfolding penaltyOf
+unfolding codedPenalty
 returns c = rw (eq-eqb _ _ (c .if1 .taken))
 
 returns-2 : tie.Need-returns-2
-unfolding penaltyOf
+unfolding codedPenalty
 returns-2 c = rw (ne-eqb _ _ (c .before .if1 .left), eq-eqb _ _ (c .if2 .taken))
 
 returns-3 : tie.Need-returns-3
-unfolding penaltyOf
+unfolding codedPenalty
 returns-3 c = rw (ne-eqb _ _ (c .before .before .if1 .left), ne-eqb _ _ (c .before .if2 .left), eq-eqb _ _ (c .if3 .taken))
 
 returns-4 : tie.Need-returns-4
-unfolding penaltyOf div ofBits
+unfolding codedPenalty div ofBits
 returns-4 c = rw (ne-eqb _ _ (c .before .before .if1 .left), ne-eqb _ _ (c .before .if2 .left), ne-eqb _ _ (c .if3 .left))
 
 pub penalty-of-spec : {M : Type 1} → statement M

@@ -1,5 +1,5 @@
 -- `settings_of`: each number in its place. Assumes nothing.
-use Rattle.codes.specs.Codes.{settingsOf}
+use Rattle.codes.specs.Codes.{codedSettings}
 use borrow.Author.Needs.{needs}
 use Rattle.codes.proofs.settings_of.Statement.{statement}
 use Rattle.codes.proofs.settings_of.Tie as tie
@@ -8,7 +8,7 @@ penalty-of-requires : tie.Need-penalty-of-requires
 penalty-of-requires c κs = search needs
 
 returns : tie.Need-returns
-unfolding settingsOf
+unfolding codedSettings
 returns c = rw (← c .penalty-of .ensures)
 
 pub settings-of-spec : {M : Type 1} → statement M

@@ -1,8 +1,7 @@
 -- `tell_size`: by the answer's case and the fault's. Where one is a refusal and the other is not, the two cannot be equal. Assumes nothing.
 use mathlib.Core.Path.{_≡_, refl}
 use Prim.Native.Nat.{ℕ}
-use Rattle.doubles.specs.Answer.{refused, answered}
-use Rattle.doubles.specs.Answer.{refused, Fault, none, after, left}
+use Rattle.doubles.specs.Answer.{refused, answered, Fault, after, left}
 use Rattle.codes.specs.Codes.{numberOfFault, placeOfFault}
 use borrow.Author.Needs.{needs}
 use Rattle.codes.proofs.tell_size.Statement.{statement}
@@ -10,12 +9,12 @@ use Rattle.codes.proofs.tell_size.Tie as tie
 
 refusal-told : (number place old : ℕ) (f : Fault) (size : ℕ) → refused number place ≡ after f size
     → (number ≡ numberOfFault f) × (place ≡ placeOfFault f) × (old ≡ left f size old)
-refusal-told number place old none size e = (cc, cc, cc)
+refusal-told number place old (answered u) size e = (cc, cc, cc)
 refusal-told number place old (refused n k) size e = (cc, cc, refl)
 
 size-told : (count old : ℕ) (f : Fault) (size : ℕ) → answered count ≡ after f size
     → (0 ≡ numberOfFault f) × (0 ≡ placeOfFault f) × (count ≡ left f size old)
-size-told count old none size e = (refl, refl, cc)
+size-told count old (answered u) size e = (refl, refl, cc)
 size-told count old (refused n k) size e = (cc, cc, cc)
 
 enum-known-answer : tie.Need-enum-known-answer

@@ -1,4 +1,4 @@
--- `koyramutey_fit_dense`: the call, and its answer in numbers. Assumes nothing.
+-- `koyramutey_fit_dense`: the whole call with the shape and the settings that the numbers stand for, and its answer in numbers. Assumes nothing.
 use Rattle.codes.proofs.Laws.Codes.{called}
 use borrow.Author.Needs.{needs}
 use Rattle.exports.proofs.koyramutey_fit_dense.Statement.{statement}
@@ -36,14 +36,10 @@ same-length-4 c = search needs
 
 returns : tie.Need-returns
 returns c =
-    let at-there = c .before .before .before .before .before .before .before .before .before .before .before .before .before .before .before
-    in
-    let fitted = at-there in
-    let shaped = fitted .before .before .before .before .before .before .before in
-    let set = shaped .before .settings-of .ensures in
-    let told = c .tell .ensures in
-    let done = fitted .coordinate-descent .ensures in
-    called _ _ _ _ _ _ _ _ _ (shaped .dense .ensures) set _ _ _ _ _ _ (done .0) (done .1) (told .0) (told .1) (told .2)
+    let at-fit = c .before .before .before .before .before .before .before .before .before .before .before .before .before .before .before in
+    let at-shape = at-fit .before .before .before .before .before .before .before in
+    let at-settings = at-shape .before in
+    called _ _ _ _ _ (at-shape .dense .ensures) (at-settings .settings-of .ensures) _ (at-fit .coordinate-descent .ensures) (c .tell .ensures)
 
 pub koyramutey-fit-dense-spec : {M : Type 1} → statement M
 koyramutey-fit-dense-spec =

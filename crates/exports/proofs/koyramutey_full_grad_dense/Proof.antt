@@ -23,10 +23,11 @@ same-length c = search needs
 
 returns : tie.Need-returns
 returns c =
-    let called = c .before .before .before .before in
+    let at-grad = c .before .before .before .before in
+    let at-shape = at-grad .before .before .before .before in
+    let done = at-grad .full-grad .ensures in
     let told = c .tell-verdict .ensures in
-    let done = called .full-grad .ensures in
-    rw (← called .before .before .before .before .dense .ensures, ← done .0) (told .0, told .1, done .1)
+    rw (← at-shape .dense .ensures, ← done .0) (told .0, told .1, done .1)
 
 pub koyramutey-full-grad-dense-spec : {M : Type 1} → statement M
 koyramutey-full-grad-dense-spec =

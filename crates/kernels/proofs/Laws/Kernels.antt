@@ -1,39 +1,24 @@
--- The tests of a kernel, and what they show. Assumes nothing.
+-- What a kernel's tests show of its column, and what it leaves behind them. Assumes nothing.
 use mathlib.Core.Path.{_≡_, sym}
-use mathlib.Core.Bool.{Bool, true, false}
 use mathlib.Core.List.{List}
 use Prim.Native.Nat.{ℕ, _≤_, _<_}
 use native.Mathlib.Nat.{le-of-eq}
 use lib.Dec.{ltb}
 use lib.ListN.{length}
 use lib.Ieee.{Float}
-use borrow.Author.Tests.{le-leb, lt-leb, leb-true, ltb-true}
+use borrow.Author.Tests.{leb-true, ltb-true}
 use Rattle.doubles.specs.Num.{_and_}
+use Rattle.doubles.specs.Answer.{none}
 use Rattle.doubles.proofs.Laws.Choice.{and-both}
-use Rattle.doubles.specs.Answer.{refused, none}
+use Rattle.doubles.proofs.Laws.Verdict.{spared}
 use Rattle.designs.specs.Checks.{sizes}
 use Rattle.designs.specs.Design.{design, denseShape, nothing, laid, dot, moved}
 use Rattle.designs.specs.Sound.{Held, Whole}
 use Rattle.designs.specs.declared.Shape.{Shape}
-use Rattle.doubles.proofs.Laws.Verdict.{spared}
 use Rattle.designs.proofs.Laws.Passed.{sized, dense-values}
 use Rattle.kernels.specs.Kernels.{kernelFault, productLeft, updateLeft}
 
-module _ (n p : ℕ) (values : List Float) (column : ℕ) (s : Shape) (hs : s ≡ denseShape n p) where
-  -- the code's tests t, of which z is that of the sizes
-  module _ (places : ℕ) (t z : Bool) (ht : t ≡ (z and ltb column p)) (hz : z ≡ sizes s nothing nothing values) where
-    pub fine : t ≡ true → n ≤ places → none ≡ kernelFault n p values column places
-    unfolding kernelFault
-    fine h k = rw (← hs, ← hz, ← ht, h, le-leb n places k)
-
-    pub short : t ≡ true → places < n → refused 3 0 ≡ kernelFault n p values column places
-    unfolding kernelFault
-    short h k = rw (← hs, ← hz, ← ht, h, lt-leb n places k)
-
-    pub wrong : t ≡ false → refused 1 0 ≡ kernelFault n p values column places
-    unfolding kernelFault
-    wrong h = rw (← hs, ← hz, ← ht, h)
-
+module _ {n p : ℕ} (values : List Float) (column : ℕ) {s : Shape} (hs : s ≡ denseShape n p) where
   -- what a column's functions ask
   pub ready : (places : ℕ) → none ≡ kernelFault n p values column places → (column < s .p) × Whole s nothing nothing values × (s .n ≤ places)
   unfolding kernelFault Held

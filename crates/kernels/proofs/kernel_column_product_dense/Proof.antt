@@ -1,6 +1,6 @@
--- `kernel_column_product_dense`: the tests, then the column. Assumes nothing.
-use mathlib.Core.Path.{refl}
+-- `kernel_column_product_dense`: behind the tests, the column's function; refused, nothing. The verdict is told either way. Assumes nothing.
 use Rattle.doubles.proofs.Laws.Verdict.{stop-left, pass}
+use Rattle.codes.proofs.Laws.Codes.{same-told}
 use Rattle.kernels.specs.Kernels.{productLeft}
 use Rattle.kernels.proofs.Laws.Kernels.{ready, product-told}
 use borrow.Author.Needs.{needs}
@@ -27,35 +27,31 @@ slice-aggregate-column-dot-2 c = search needs
 
 column-dot-requires : tie.Need-column-dot-requires
 column-dot-requires c κs =
-    let chosen = c .before .before .before in
-    let tested = chosen .before .before .before .before .admit-column .ensures in
-    ready _ _ _ _ _ (c .before .before .dense .ensures) _ (pass _ tested (chosen .enum-told .given .1))
+    let at-shape = c .before .before in
+    let at-fine = at-shape .before in
+    let tested = at-fine .before .before .before .before .admit-column .ensures in
+    ready _ _ (at-shape .dense .ensures) _ (pass _ tested (at-fine .enum-told .given .1))
 
 enum-told-2 : tie.Need-enum-told-2
 enum-told-2 c = search needs
 
 returns : tie.Need-returns
 returns c =
-    let shaped = c .before .before .before in
-    let chosen = shaped .before in
-    let told = chosen .before .before in
-    let tested = told .before .before .admit-column .ensures in
-    let passed = pass _ tested (chosen .enum-told .given .1) in
-    rw (← tested) (
-      told .tell-verdict .ensures .0,
-      told .tell-verdict .ensures .1,
-      product-told _ _ _ _ _ (shaped .dense .ensures) _ _ _ passed (c .column-dot .ensures),
-    )
+    let at-shape = c .before .before .before in
+    let at-fine = at-shape .before in
+    let at-told = at-fine .before .before in
+    let tested = at-told .before .before .admit-column .ensures in
+    let told = same-told tested (at-told .tell-verdict .ensures) in
+    let passed = pass _ tested (at-fine .enum-told .given .1) in
+    (told .0, told .1, product-told _ _ (at-shape .dense .ensures) _ _ _ passed (c .column-dot .ensures))
 
 returns-2 : tie.Need-returns-2
 unfolding productLeft
 returns-2 c =
-    let told = c .before .before in
-    rw (← told .before .before .admit-column .ensures) (
-      told .tell-verdict .ensures .0,
-      told .tell-verdict .ensures .1,
-      stop-left _ refl _ _ _ (c .enum-told2 .given .1),
-    )
+    let at-told = c .before .before in
+    let tested = at-told .before .before .admit-column .ensures in
+    let told = same-told tested (at-told .tell-verdict .ensures) in
+    (told .0, told .1, stop-left _ tested _ _ _ (c .enum-told2 .given .1))
 
 pub kernel-column-product-dense-spec : {M : Type 1} → statement M
 kernel-column-product-dense-spec =

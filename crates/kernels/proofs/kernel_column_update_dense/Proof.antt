@@ -1,6 +1,6 @@
--- `kernel_column_update_dense`: the tests, then the column. Assumes nothing.
-use mathlib.Core.Path.{refl}
+-- `kernel_column_update_dense`: behind the tests, the column's function; refused, nothing. The verdict is told either way. Assumes nothing.
 use Rattle.doubles.proofs.Laws.Verdict.{stop-left, pass}
+use Rattle.codes.proofs.Laws.Codes.{same-told}
 use Rattle.kernels.specs.Kernels.{updateLeft}
 use Rattle.kernels.proofs.Laws.Kernels.{ready, update-told}
 use borrow.Author.Needs.{needs}
@@ -27,10 +27,10 @@ slice-aggregate-column-update-2 c = search needs
 
 column-update-requires : tie.Need-column-update-requires
 column-update-requires c κs =
-    let shaped = c .before .before .before in
-    let chosen = shaped .before in
-    let tested = chosen .before .before .before .before .admit-column .ensures in
-    ready _ _ _ _ _ (shaped .dense .ensures) _ (pass _ tested (chosen .enum-told .given .1))
+    let at-shape = c .before .before .before in
+    let at-fine = at-shape .before in
+    let tested = at-fine .before .before .before .before .admit-column .ensures in
+    ready _ _ (at-shape .dense .ensures) _ (pass _ tested (at-fine .enum-told .given .1))
 
 enum-told-2 : tie.Need-enum-told-2
 enum-told-2 c = search needs
@@ -40,27 +40,22 @@ same-length c = search needs
 
 returns : tie.Need-returns
 returns c =
-    let moved = c .before .before in
-    let shaped = moved .before .before .before .before in
-    let chosen = shaped .before in
-    let told = chosen .before .before in
-    let tested = told .before .before .admit-column .ensures in
-    let passed = pass _ tested (chosen .enum-told .given .1) in
-    rw (← tested) (
-      told .tell-verdict .ensures .0,
-      told .tell-verdict .ensures .1,
-      update-told _ _ _ _ _ (shaped .dense .ensures) _ _ _ passed (moved .column-update .ensures),
-    )
+    let at-column = c .before .before in
+    let at-shape = at-column .before .before .before .before in
+    let at-fine = at-shape .before in
+    let at-told = at-fine .before .before in
+    let tested = at-told .before .before .admit-column .ensures in
+    let told = same-told tested (at-told .tell-verdict .ensures) in
+    let passed = pass _ tested (at-fine .enum-told .given .1) in
+    (told .0, told .1, update-told _ _ (at-shape .dense .ensures) _ _ _ passed (at-column .column-update .ensures))
 
 returns-2 : tie.Need-returns-2
 unfolding updateLeft
 returns-2 c =
-    let told = c .before .before in
-    rw (← told .before .before .admit-column .ensures) (
-      told .tell-verdict .ensures .0,
-      told .tell-verdict .ensures .1,
-      stop-left _ refl _ _ _ (c .enum-told2 .given .1),
-    )
+    let at-told = c .before .before in
+    let tested = at-told .before .before .admit-column .ensures in
+    let told = same-told tested (at-told .tell-verdict .ensures) in
+    (told .0, told .1, stop-left _ tested _ _ _ (c .enum-told2 .given .1))
 
 pub kernel-column-update-dense-spec : {M : Type 1} → statement M
 kernel-column-update-dense-spec =

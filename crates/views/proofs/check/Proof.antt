@@ -17,8 +17,8 @@ use sound.WpLaws.{FmC}
 use denote.Plain.{uint-vals, uint-tells, uint-lawful}
 use denote.Triple.Statement.{Triple}
 use denote.Enum.Laws as EL
-use Rattle.designs.proofs.Verdict as Verdict
-use Rattle.designs.proofs.Verdict.Laws as Verdict′
+use Rattle.doubles.proofs.Verdict as Verdict
+use Rattle.doubles.proofs.Verdict.Laws as Verdict′
 use Rattle.views.proofs.Laws.Steps.{copied, sets, freed}
 use Rattle.views.proofs.Laws.Thin.{others, Call, Promise, Callee, passed, entry, Walks, calls-apart, thin-meets}
 use Rattle.views.proofs.inner.check.Symbol as callee

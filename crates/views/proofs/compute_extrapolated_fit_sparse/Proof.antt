@@ -19,8 +19,8 @@ use denote.Plain.{uint-vals, uint-tells, uint-lawful}
 use denote.Slice.{slice-vals, shr-slice-tells, shr-slice-lawful, mut-slice-tells, mut-slice-lawful}
 use denote.Triple.Statement.{Triple}
 use denote.Enum.Laws as EL
-use Rattle.designs.proofs.Verdict as Verdict
-use Rattle.designs.proofs.Verdict.Laws as Verdict′
+use Rattle.doubles.proofs.Verdict as Verdict
+use Rattle.doubles.proofs.Verdict.Laws as Verdict′
 use Rattle.views.proofs.Laws.Steps.{copied, sets, freed}
 use Rattle.views.proofs.Laws.Thin.{others, Call, Promise, Callee, passed, entry, Walks, calls-apart, thin-meets}
 use Rattle.views.proofs.inner.compute_extrapolated_fit.Symbol as callee

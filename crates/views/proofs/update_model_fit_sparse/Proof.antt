@@ -24,8 +24,8 @@ use denote.Enum.Laws as EL
 use denote.Struct.Laws as LL
 use Rattle.designs.proofs.Feature as Feature
 use Rattle.designs.proofs.Feature.Laws as Feature′
-use Rattle.designs.proofs.Verdict as Verdict
-use Rattle.designs.proofs.Verdict.Laws as Verdict′
+use Rattle.doubles.proofs.Verdict as Verdict
+use Rattle.doubles.proofs.Verdict.Laws as Verdict′
 use Rattle.views.proofs.Laws.Steps.{copied, sets, freed}
 use Rattle.views.proofs.Laws.Thin.{others, Call, Promise, Callee, passed, entry, Walks, calls-apart, thin-meets}
 use Rattle.views.proofs.inner.update_model_fit.Symbol as callee
