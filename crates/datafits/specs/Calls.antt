@@ -18,10 +18,6 @@ use Rattle.designs.specs.Checks.{numbers, admitted, targetsFit}
 abbrev pub roomTwice : ℕ → List Float → Bool
 roomTwice p l = leb (p + p) (length l)
 
--- the first n of a list
-abbrev pub first : ℕ → List Float → List Float
-first n l = take n l
-
 -- ---- initialize: constants and X'y
 unfoldable pub initializeFault : Given → List Float → Fault
 initializeFault g buf = admitted g (targetsFit g) (roomTwice (g .shape .p) buf)
@@ -70,7 +66,7 @@ extrapolatedFault g ws w fit =
     admitted g (leb (length ws) (g .shape .p) and allBelow ws (g .shape .p)) (leb (g .shape .p) (length w) and leb (g .shape .n) (length fit))
 
 unfoldable pub extrapolatedFit : Given → List ℕ → List Float → List Float → List Float
-extrapolatedFit g ws w fit = left (extrapolatedFault g ws w fit) (put fit 0 (extrapolated (designOf g) ws (first (g .shape .p) w))) fit
+extrapolatedFit g ws w fit = left (extrapolatedFault g ws w fit) (put fit 0 (extrapolated (designOf g) ws (take (g .shape .p) w))) fit
 
 -- ---- compute_alpha_max and compute_alpha_max_sparse
 unfoldable pub alphaMaxFault : Given → List Float → Fault

@@ -112,11 +112,11 @@ violation (MCP alpha gamma) w g = violationMcp alpha gamma w g
 
 -- ---- the public calls: "Smaller public calls use the numbers that apply to them, in the same order"
 -- 1 where the length is outside p's limits, then 2 where a number is outside its range
-unfoldable pub valueCall : Penalty → List Float → Outcome Float
-valueCall p w =
+unfoldable pub penaltyValueCall : Penalty → List Float → Outcome Float
+penaltyValueCall p w =
     unless (leb 1 (length w) and leb (length w) 8192) 1
     (after (penaltyFault p) (value p w))
 
 -- 2 where a number is outside its range
-unfoldable pub violationCall : Penalty → Float → Float → Outcome Float
-violationCall p w g = after (penaltyFault p) (violation p w g)
+unfoldable pub penaltyViolationCall : Penalty → Float → Float → Outcome Float
+penaltyViolationCall p w g = after (penaltyFault p) (violation p w g)

@@ -9,7 +9,7 @@ use lib.Ieee.{Float, lt}
 use Rattle.doubles.specs.Num.{_⊕_, _⊖_, _⊗_, _⊘_, #0, #1, at, finite, pick, _and_}
 use Rattle.doubles.specs.Steps.{steps, sum, tab, all}
 use Rattle.doubles.specs.Buffer.{put}
-use Rattle.systems.specs.Elimination.{Rows, eliminated, regular, readOff}
+use Rattle.systems.specs.Elimination.{Matrix, eliminated, regular, readOff}
 use Rattle.leaves.specs.Penalty.{value}
 use Rattle.leaves.specs.declared.penalties.separable.Penalty.{Penalty}
 use Rattle.designs.specs.Design.{datafit, extrapolated}
@@ -34,7 +34,7 @@ entry K p kept a b = sum (λ k. U p kept k a ⊗ U p kept k b) K
 unfoldable pub systemRow : ℕ → ℕ → List Float → ℕ → List Float
 systemRow K p kept a = tab (λ b. pick (ltb b K) (entry K p kept a b) (pick (eqb b K) #1 #0)) 11
 
-unfoldable pub system : ℕ → ℕ → List Float → Rows
+unfoldable pub system : ℕ → ℕ → List Float → Matrix
 system K p kept = tab (λ a. pick (ltb a K) (systemRow K p kept a) (tab (λ b. #0) 11)) 10
 
 -- ---- "With z the solution and c = z/Σz, the candidate is the sum of c_k·row_k for the first K rows, zero elsewhere"
@@ -81,7 +81,7 @@ unfoldable pub candidateOf : Task → ℕ → List ℕ → List Float → List F
 candidateOf T K ws kept z = pointOf T ws (candidate K (T .p) ws kept (coefficients K z))
 
 -- of the system m that was eliminated; "any zero on the final diagonal means singular": no candidate
-unfoldable pub fromSystem : Task → List Float → ℕ → List ℕ → List Float → Point → Rows → Tried
+unfoldable pub fromSystem : Task → List Float → ℕ → List ℕ → List Float → Point → Matrix → Tried
 fromSystem T y K ws kept s m = pick (regular K m) (chosen T y (candidateOf T K ws kept (readOff K m)) s) (keeps s)
 
 unfoldable pub extrapolate : Task → List Float → ℕ → List ℕ → List Float → Point → Tried

@@ -19,7 +19,7 @@ use Rattle.runs.specs.Run.{Inner, gained, accelerated, enough, checked, checks,
 use Rattle.runs.specs.Run.{State, chosenSet, iteration, turn, start, run}
 use Rattle.runs.specs.Call.{End, usableAt, solved, reportOf, answer}
 use Rattle.two_runs.specs.Stages.{Stages, both-going, both-stopped, both-bad, Both, Ends, both-untouched, both-given-up, both-done}
-use Rattle.two_runs.specs.Alike.{Pair, first, second, Points, Chosen, Rows, Respects, bare, rest, Alike}
+use Rattle.two_runs.specs.Alike.{Pair, first, second, Points, FeatureSet, Rows, Respects, bare, rest, Alike}
 use Rattle.two_runs.proofs.Laws.Loops.{related, all-same, stages-map, upto-related, then-related, concluded-related}
 use Rattle.two_runs.proofs.Laws.Points.{weights-zero, all-known, worst-same, known-in, worst-in, chosen-same, chosen-fits, visits-related}
 use Rattle.two_runs.proofs.Laws.Rows.{room-now, row-next, rows-now, tried-related}
@@ -59,7 +59,7 @@ module _ (P : Pair) (H : Respects P) where
   T' = second P
 
   -- ---- within one working set
-  module _ {ws : List ℕ} (C : Chosen (P .p) ws) where
+  module _ {ws : List ℕ} (C : FeatureSet (P .p) ws) where
     accelerated-related : (e : ℕ) {s s' : Inner} → Under P ws e s s' → {q q' : Point} → Points P q q'
         → Under P ws (suc e) (accelerated T (P .y) S ws e s q) (accelerated T' (P .y') S ws e s' q')
     unfolding accelerated

@@ -55,7 +55,7 @@ pub record Points (P : Pair) (q q' : Point) : Type 0 where
   pub other : P .point q q'
 
 -- a working set: features, and no more than there are
-pub record Chosen (p : ℕ) (ws : List ℕ) : Type 0 where
+pub record FeatureSet (p : ℕ) (ws : List ℕ) : Type 0 where
   pub each : (i : ℕ) → i < length ws → getD ws i 0 < p
   pub few : length ws ≤ p
 
@@ -89,10 +89,10 @@ pub record Respects (P : Pair) : Type 0 where
   pub combined : P .settings .extrapolate ≡ true → (j : ℕ) → j < P .p → (c x x' : ℕ → Float) (m : ℕ)
       → ((k : ℕ) → k < m → P .weight j (x k) (x' k)) → P .weight j (sum (λ k. c k ⊗ x k) m) (sum (λ k. c k ⊗ x' k) m)
   -- a candidate w, taken by both or by none
-  pub better : P .settings .extrapolate ≡ true → {ws : List ℕ} → Chosen (P .p) ws → {w w' : List Float} → Weights P w w'
+  pub better : P .settings .extrapolate ≡ true → {ws : List ℕ} → FeatureSet (P .p) ws → {w w' : List Float} → Weights P w w'
       → {q q' : Point} → Points P q q'
       → Extrapolation.better (first P) (P .y) (pointOf (first P) ws w) q ≡ Extrapolation.better (second P) (P .y') (pointOf (second P) ws w') q'
-  pub taken : P .settings .extrapolate ≡ true → {ws : List ℕ} → Chosen (P .p) ws → {w w' : List Float} → Weights P w w'
+  pub taken : P .settings .extrapolate ≡ true → {ws : List ℕ} → FeatureSet (P .p) ws → {w w' : List Float} → Weights P w w'
       → {q q' : Point} → Points P q q' → Extrapolation.better (first P) (P .y) (pointOf (first P) ws w) q ≡ true
       → P .point (pointOf (first P) ws w) (pointOf (second P) ws w')
 

@@ -10,7 +10,7 @@ use borrow.Author.Tests.{eq-eqb, ne-eqb, le-leb, lt-leb}
 use Rattle.doubles.specs.Num.{#0, _and_}
 use Rattle.doubles.specs.Steps.{steps, tab}
 use Rattle.doubles.proofs.Laws.Steps.{steps-all}
-use Rattle.systems.specs.Elimination.{Rows, eliminated, regular, readOff}
+use Rattle.systems.specs.Elimination.{Matrix, eliminated, regular, readOff}
 use Rattle.leaves.specs.declared.penalties.separable.Penalty.{Penalty}
 use Rattle.designs.specs.Given.{Given}
 use Rattle.designs.specs.Design.{extrapolated}
@@ -36,7 +36,7 @@ unfolding chosenBy triedFrom candidateOf chosen better ext.pointOf
 tried-from T y K ws kept z c w₀ fit₀ w new old before r e eb en eo ew ec = e ∙ rw (eb, en, eo, ew, ec)
 
 -- ---- by the diagonal of the system m that was eliminated
-module _ (T : Task) (y : List Float) (K : ℕ) (ws : List ℕ) (k kept : List Float) (s : Point) (a m : Rows) (b : Bool)
+module _ (T : Task) (y : List Float) (K : ℕ) (ws : List ℕ) (k kept : List Float) (s : Point) (a m : Matrix) (b : Bool)
     (ek : k ≡ kept) (ea : a ≡ system K (T .p) k) (em : m ≡ eliminated K a) (eb : b ≡ regular K m) where
   of-system : fromSystem T y K ws kept s m ≡ extrapolate T y K ws kept s
   unfolding extrapolate

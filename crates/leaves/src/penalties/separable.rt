@@ -28,7 +28,7 @@ fn refused_length() -> Number
 
 // The value over all weights: 1 for a length outside 1 to 8,192, 2 for a penalty number outside its range.
 pub fn value(p: Penalty, w: &[f64]) -> Number
-    ensures { λ r. ⌜ answer.numberOf r ≡ pen.valueCall p (now (w .entry)) ⌝ }
+    ensures { λ r. ⌜ answer.numberOf r ≡ pen.penaltyValueCall p (now (w .entry)) ⌝ }
 {
     let n = w.len();
     if n < 1 {
@@ -84,7 +84,7 @@ pub fn prox(p: Penalty, v: f64, step: f64) -> f64
 
 // The violation of one feature, with weight w and gradient grad: 2 for a penalty number outside its range.
 pub fn subdiff_distance(p: Penalty, w: f64, grad: f64) -> Number
-    ensures { λ r. ⌜ answer.numberOf r ≡ pen.violationCall p w grad ⌝ }
+    ensures { λ r. ⌜ answer.numberOf r ≡ pen.penaltyViolationCall p w grad ⌝ }
 {
     match inner::check_range(p) {
         Verdict::Refused(r) => Number::Refused(r),

@@ -27,7 +27,7 @@ use Rattle.runs.specs.Call.{usable, usableAt, solved, reportOf}
 use Rattle.runs.specs.declared.Report.{Report}
 use Rattle.runs.specs.declared.Settings.{Settings}
 use Rattle.two_runs.specs.Stages.{Ends}
-use Rattle.two_runs.specs.Alike.{Pair, first, second, Weights, Points, Chosen, Rows, Respects, Alike}
+use Rattle.two_runs.specs.Alike.{Pair, first, second, Weights, Points, FeatureSet, Rows, Respects, Alike}
 use Rattle.two_runs.proofs.Laws.Loops.{steps-related, ends-map}
 use Rattle.two_runs.proofs.TwoRuns.{two-solves, report-same}
 use Rattle.signs.specs.Turning.{SameRun}
@@ -91,7 +91,7 @@ module _ (c : ℕ → Bool) (t : Bool) (X : Design) (other : ℕ → ℕ → Flo
   signs-of : {w w' : List Float} → Weights turning w w' → Signs (λ (j : ℕ). unlike (c j) t) w w'
   signs-of {w} {w'} v = signs-each w w' (v .size ∙ sym (v .size')) (λ k l. v .each k (rw (v .size) at l))
 
-  fit-of : {ws : List ℕ} → Chosen (X .p) ws → {w w' : List Float} → Weights turning w w'
+  fit-of : {ws : List ℕ} → FeatureSet (X .p) ws → {w w' : List Float} → Weights turning w w'
       → Signs (λ (i : ℕ). t) (pointOf (first turning) ws w .fit) (pointOf (second turning) ws w' .fit)
   unfolding pointOf extrapolated movedAll
   fit-of {ws} C {w} {w'} v =
@@ -141,7 +141,7 @@ module _ (c : ℕ → Bool) (t : Bool) (X : Design) (other : ℕ → ℕ → Flo
     unfolding objectiveOf
     objective-same w f = rw (datafit-same sy f, odd .value w)
 
-    better-same : {ws : List ℕ} → Chosen (X .p) ws → {w w' : List Float} → Weights turning w w' → {q q' : Point} → Points turning q q'
+    better-same : {ws : List ℕ} → FeatureSet (X .p) ws → {w w' : List Float} → Weights turning w w' → {q q' : Point} → Points turning q q'
         → better (first turning) y (pointOf (first turning) ws w) q ≡ better (second turning) y' (pointOf (second turning) ws w') q'
     unfolding better pointOf
     better-same C v r =

@@ -18,7 +18,7 @@ use Rattle.runs.specs.Run.{startSize, chosenSet}
 use Rattle.runs.specs.Call.{zeros}
 use Rattle.worksets.proofs.Laws.Sets.{size-most, length-workingSet, workingSet-each}
 use Rattle.two_runs.specs.Stages.{Both, both-going, both-bad}
-use Rattle.two_runs.specs.Alike.{Pair, first, second, Weights, Points, Chosen, Respects}
+use Rattle.two_runs.specs.Alike.{Pair, first, second, Weights, Points, FeatureSet, Respects}
 use Rattle.two_runs.proofs.Laws.Loops.{related, all-same, largest-same, upto-related}
 
 -- ---- weights
@@ -69,7 +69,7 @@ module _ (P : Pair) (H : Respects P) where
     unfolding worst
     worst-same = largest-same _ _ (P .p) (H .violation r)
 
-    module _ {ws : List ℕ} (C : Chosen (P .p) ws) where
+    module _ {ws : List ℕ} (C : FeatureSet (P .p) ws) where
       pub known-in : knownIn (first P) ws (q .weights) (q .fit) ≡ knownIn (second P) ws (q' .weights) (q' .fit)
       unfolding knownIn
       known-in = all-same _ _ (length ws) (λ i l. H .known r (getD ws i 0) (C .each i l))
@@ -85,7 +85,7 @@ module _ (P : Pair) (H : Respects P) where
         (set-same (q .weights) (q' .weights) (P .p) (λ j l. H .zero j l (r .weights .each j l)) (r .weights .size) (r .weights .size')
         (startSize (first P) (P .settings)) _)
 
-    pub chosen-fits : Chosen (P .p) (chosenSet (first P) (P .settings) q)
+    pub chosen-fits : FeatureSet (P .p) (chosenSet (first P) (P .settings) q)
     unfolding chosenSet
     chosen-fits =
         let e = r .weights .size in
@@ -109,7 +109,7 @@ module _ (P : Pair) (H : Respects P) where
       related (Both (Points P)) (H .skipped j l) (λ e. both-going r)
       (λ z. related (Both (Points P)) (H .fine r j l z) (λ f. both-going (visited-related r j l z f)) (λ f. both-bad))
 
-  pub visits-related : {ws : List ℕ} → Chosen (P .p) ws → {q q' : Point} → Points P q q'
+  pub visits-related : {ws : List ℕ} → FeatureSet (P .p) ws → {q q' : Point} → Points P q q'
       → Both (Points P) (visits (first P) ws q) (visits (second P) ws q')
   unfolding visits
   visits-related {ws} C r =

@@ -15,11 +15,11 @@ use Rattle.doubles.specs.Num.{at}
 use Rattle.doubles.proofs.Laws.Buffer.{length-put, put-before, put-in}
 use Rattle.doubles.proofs.Laws.Choice.{and-both}
 use Rattle.doubles.proofs.Laws.Steps.{tab-same, length-tab, getD-tab}
-use Rattle.systems.specs.Elimination.{Rows as System, regular, readOff, eliminated}
+use Rattle.systems.specs.Elimination.{Matrix, regular, readOff, eliminated}
 use Rattle.runs.specs.Epoch.{Point}
 use Rattle.runs.specs.Extrapolation.{gathered, keptNow, systemRow, system, coefficients, combined, candidate}
 use Rattle.runs.specs.Extrapolation.{Tried, keeps, chosen, pointOf, candidateOf, fromSystem, extrapolate, due, tried}
-use Rattle.two_runs.specs.Alike.{Pair, first, second, Weights, Points, Chosen, Rows, Respects}
+use Rattle.two_runs.specs.Alike.{Pair, first, second, Weights, Points, FeatureSet, Rows, Respects}
 use Rattle.two_runs.proofs.Laws.Loops.{related, steps-related}
 use Rattle.two_runs.proofs.Laws.Points.{weights-set, weights-zero}
 
@@ -60,7 +60,7 @@ pub record Tries (P : Pair) (a b : Tried) : Type 0 where
 keeps-related : (P : Pair) {q q' : Point} → Points P q q' → Tries P (keeps q) (keeps q')
 keeps-related P r = record { points = r; taken = refl }
 
-module _ (P : Pair) (K : ℕ) {ws : List ℕ} (C : Chosen (P .p) ws) (e : ℕ) (kept kept' : List Float) {w w' : List Float} (v : Weights P w w')
+module _ (P : Pair) (K : ℕ) {ws : List ℕ} (C : FeatureSet (P .p) ws) (e : ℕ) (kept kept' : List Float) {w w' : List Float} (v : Weights P w w')
     (room : length kept ≡ suc K * P .p) (room' : length kept' ≡ suc K * P .p) where
   abbrev now : List Float
   now = keptNow K (P .p) e ws w kept
@@ -82,7 +82,7 @@ due-last : (K e : ℕ) (ws : List ℕ) → due K e ws ≡ true → (e % suc K �
 unfolding due
 due-last K e ws h = let b = and-both (eqb (e % suc K) K) (leb K (length ws)) h in (eqb-true (e % suc K) K (b .0), leb-true K (length ws) (b .1))
 
-module _ (P : Pair) (H : Respects P) (on : P .settings .extrapolate ≡ true) {ws : List ℕ} (C : Chosen (P .p) ws) where
+module _ (P : Pair) (H : Respects P) (on : P .settings .extrapolate ≡ true) {ws : List ℕ} (C : FeatureSet (P .p) ws) where
   abbrev K : ℕ
   K = P .settings .depth
 
@@ -123,7 +123,7 @@ module _ (P : Pair) (H : Respects P) (on : P .settings .extrapolate ≡ true) {w
           (λ b. record { points = record { weights = unfold pointOf in v; other = H .taken on C v u b }; taken = refl })
           (λ b. keeps-related P u)
 
-      from-system : (m : System) → Tries P (fromSystem (first P) (P .y) K ws kept q m) (fromSystem (second P) (P .y') K ws kept' q' m)
+      from-system : (m : Matrix) → Tries P (fromSystem (first P) (P .y) K ws kept q m) (fromSystem (second P) (P .y') K ws kept' q' m)
       unfolding fromSystem candidateOf
       from-system m =
           related (Tries P) {b = regular K m} refl (λ h. chosen-related (candidate-related (coefficients K (readOff K m)))) (λ h. keeps-related P u)

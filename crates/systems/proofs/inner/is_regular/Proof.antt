@@ -6,13 +6,13 @@ use lib.Ieee.{eq}
 use Rattle.doubles.specs.Num.{#0}
 use Rattle.doubles.specs.Steps.{all}
 use Rattle.doubles.proofs.Laws.Steps.{steps-none, steps-all, all-more, all-broken}
-use Rattle.systems.specs.Elimination.{entry, regular}
+use Rattle.systems.specs.Elimination.{cell, regular}
 use native.Mathlib.Omega.{arith}
 use Rattle.systems.proofs.inner.is_regular.Statement.{statement}
 use Rattle.systems.proofs.inner.is_regular.Tie as tie
 
 abbrev Inv-loop : tie.InvT-loop
-Inv-loop size a i₀ i = (i ≤ size) × (true ≡ all (λ k. not (eq (entry a k k) #0)) i)
+Inv-loop size a i₀ i = (i ≤ size) × (true ≡ all (λ k. not (eq (cell a k k) #0)) i)
 
 abbrev μ-loop : tie.MeasureT-loop
 μ-loop size a i₀ i = size - i

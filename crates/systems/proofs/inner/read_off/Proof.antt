@@ -5,13 +5,13 @@ use lib.ListN.{set}
 use Rattle.doubles.specs.Num.{_⊘_}
 use Rattle.doubles.specs.Steps.{steps}
 use Rattle.doubles.proofs.Laws.Steps.{steps-none, steps-more, steps-all}
-use Rattle.systems.specs.Elimination.{entry, readOff}
+use Rattle.systems.specs.Elimination.{cell, readOff}
 use native.Mathlib.Omega.{arith}
 use Rattle.systems.proofs.inner.read_off.Statement.{statement}
 use Rattle.systems.proofs.inner.read_off.Tie as tie
 
 abbrev Inv-loop : tie.InvT-loop
-Inv-loop size a z₀ i₀ z i = (i ≤ size) × (z ≡ steps (λ k x. set x k (entry a k size ⊘ entry a k k)) i z₀)
+Inv-loop size a z₀ i₀ z i = (i ≤ size) × (z ≡ steps (λ k x. set x k (cell a k size ⊘ cell a k k)) i z₀)
 
 abbrev μ-loop : tie.MeasureT-loop
 μ-loop size a z₀ i₀ z i = size - i

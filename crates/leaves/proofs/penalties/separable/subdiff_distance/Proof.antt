@@ -1,6 +1,6 @@
 -- `subdiff_distance`: the numbers are tested, and the violation is the inner function's. Assumes nothing.
 use Rattle.doubles.proofs.Laws.Verdict.{stop-after, pass-after}
-use Rattle.leaves.specs.Penalty.{violationCall}
+use Rattle.leaves.specs.Penalty.{penaltyViolationCall}
 use borrow.Author.Needs.{needs}
 use Rattle.leaves.proofs.penalties.separable.subdiff_distance.Statement.{statement}
 use Rattle.leaves.proofs.penalties.separable.subdiff_distance.Tie as tie
@@ -18,11 +18,11 @@ violation-requires : tie.Need-violation-requires
 violation-requires c κs = search needs
 
 returns : tie.Need-returns
-unfolding violationCall
+unfolding penaltyViolationCall
 returns c = stop-after _ (c .before .before .before .check-range .ensures) _ _ (c .before .r .given .1)
 
 returns-2 : tie.Need-returns-2
-unfolding violationCall
+unfolding penaltyViolationCall
 returns-2 c =
     pass-after _ (c .before .before .before .check-range .ensures) _ _ (c .before .enum-told .given .1) (c .violation .ensures)
 

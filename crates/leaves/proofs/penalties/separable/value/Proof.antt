@@ -3,7 +3,7 @@ use mathlib.Core.Path.{_∙_}
 use borrow.Author.Tests.{lt-leb, le-leb}
 use Rattle.doubles.specs.Num.{_and_}
 use Rattle.doubles.proofs.Laws.Verdict.{stop-after, pass-after}
-use Rattle.leaves.specs.Penalty.{valueCall}
+use Rattle.leaves.specs.Penalty.{penaltyValueCall}
 use borrow.Author.Needs.{needs}
 use Rattle.leaves.proofs.penalties.separable.value.Statement.{statement}
 use Rattle.leaves.proofs.penalties.separable.value.Tie as tie
@@ -12,14 +12,14 @@ refused-length-requires : tie.Need-refused-length-requires
 refused-length-requires c κs = search needs
 
 returns : tie.Need-returns
-unfolding valueCall _and_
+unfolding penaltyValueCall _and_
 returns c = c .refused-length .ensures ∙ rw (lt-leb _ _ (c .before .if1 .taken))
 
 refused-length-requires-2 : tie.Need-refused-length-requires-2
 refused-length-requires-2 c κs = search needs
 
 returns-2 : tie.Need-returns-2
-unfolding valueCall _and_
+unfolding penaltyValueCall _and_
 returns-2 c =
     c .refused-length2 .ensures ∙ rw (le-leb _ _ (c .before .before .if1 .left), lt-leb _ _ (c .before .if2 .taken))
 
@@ -36,14 +36,14 @@ value-requires : tie.Need-value-requires
 value-requires c κs = search needs
 
 returns-3 : tie.Need-returns-3
-unfolding valueCall _and_
+unfolding penaltyValueCall _and_
 returns-3 c =
     let at-range = c .before .before .before in
     rw (le-leb _ _ (at-range .before .before .if1 .left), le-leb _ _ (at-range .before .if2 .left))
     (stop-after _ (at-range .check-range .ensures) _ _ (c .before .r .given .1))
 
 returns-4 : tie.Need-returns-4
-unfolding valueCall _and_
+unfolding penaltyValueCall _and_
 returns-4 c =
     let at-range = c .before .before .before in
     rw (le-leb _ _ (at-range .before .before .if1 .left), le-leb _ _ (at-range .before .if2 .left))
