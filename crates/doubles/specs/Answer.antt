@@ -46,8 +46,3 @@ after f a = f then answered a
 abbrev pub left : {A : Type 0} → Fault → A → A → A
 left (answered u) new old = new
 left (refused number place) new old = old
-
--- whether tests found nothing
-abbrev pub passes : Fault → Bool
-passes (answered u) = true
-passes (refused number place) = false

@@ -187,7 +187,7 @@ module _ (g : Given) where
   held Csc h e = sound (csc-starts _ _ (g .starts) (g .rows) (g .values) h) (csc-rows _ _ (g .starts) (g .rows) (g .values) h) e
 
 module _ (n p : ℕ) (starts rows : List ℕ) (values : List Float) where
-  -- and a sound one passes: 4 and 5 are given exactly where it is not
+  -- and a sound one passes: 4 and 5 are given exactly where it is not. Request 2 will cite it, of a design that was mended
   sound-last : Sound n p starts rows values → (i : ℕ) → i + 1 ≡ length starts → getD starts i 0 ≡ length values
   sound-last S i h =
       let q : i ≡ p = omega (arith, S .columns) in

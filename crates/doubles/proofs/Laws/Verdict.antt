@@ -1,8 +1,8 @@
 -- What tests found, and what follows: where they refuse, the refusal and unchanged buffers; where they pass, the answer. Assumes nothing.
 use mathlib.Core.Path.{_≡_, refl, sym, ap, _∙_}
-use mathlib.Core.Bool.{Bool, true, false, false≢true}
+use mathlib.Core.Bool.{Bool, true, false}
 use Prim.Native.Nat.{ℕ, _≤_}
-use Rattle.doubles.specs.Answer.{Outcome, refused, answered, Fault, none, verdictOf, unless, _then_, after, left, passes}
+use Rattle.doubles.specs.Answer.{Outcome, refused, answered, Fault, none, verdictOf, unless, _then_, after, left}
 use Rattle.doubles.specs.declared.Refusal.{Refusal}
 use Rattle.doubles.specs.declared.Verdict.{Verdict}
 use Rattle.doubles.specs.declared.Verdict.the-variants as Verdict
@@ -16,10 +16,6 @@ spared false number f e = absurd (refused≢answered e)
 pub then-none : (f g : Fault) → (f then g) ≡ none → (f ≡ none) × (g ≡ none)
 then-none (answered u) g e = (refl, e)
 then-none (refused number place) g e = absurd (refused≢answered e)
-
-pub passes-none : (f : Fault) → passes f ≡ true → f ≡ none
-passes-none (answered u) e = refl
-passes-none (refused number place) e = absurd (false≢true e)
 
 -- ---- behind a verdict
 module _ (v : Verdict) {f : Fault} (e : verdictOf v ≡ f) where
