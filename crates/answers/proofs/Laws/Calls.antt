@@ -14,7 +14,7 @@ use Rattle.doubles.proofs.Laws.Parts.{part-at}
 use Rattle.doubles.specs.Answer.{Outcome, refused, answered}
 use Rattle.runs.specs.Call.{Lent}
 use Rattle.runs.specs.declared.Report.{Report}
-use Rattle.files.specs.Call.{Problem, parsed, Places, places, roomy, given, readProblem, sizesOf, sized, readCall, filled, readLeft}
+use Rattle.files.specs.Call.{Problem, parsed, Places, places, placesSuffice, withRoom, readProblem, sizesOf, sizesAnswered, readCall, filledPlaces, readLeft}
 use Rattle.files.specs.declared.Sizes.{Sizes}
 use Rattle.listings.specs.Call.{writeCall, writeLeft}
 use Rattle.listings.proofs.Laws.Calls.{write-fits}
@@ -35,12 +35,12 @@ fit-listed P o b out out' r eo eb hp kp hn kn er el =
     (er ∙ w .0 ∙ rw (eo, eb), el ∙ w .1 ∙ rw (eo, eb))
 
 -- ---- what the reader gave
-module _ (f : List ℕ) (b : Places) (room : roomy b ≡ true) where
+module _ (f : List ℕ) (b : Places) (room : placesSuffice b ≡ true) where
   pub read-refused : (number place : ℕ) → refused number place ≡ readCall f b → parsed f ≡ refused number place
   unfolding readCall readProblem
   read-refused number place e = go (parsed f) (rw room at e)
     where
-      go : (x : Outcome Problem) → refused number place ≡ sized (given true x) → x ≡ refused number place
+      go : (x : Outcome Problem) → refused number place ≡ sizesAnswered (withRoom true x) → x ≡ refused number place
       go (refused m q) e = cc
       go (answered P) e = cc
 
@@ -52,7 +52,7 @@ module _ (f : List ℕ) (b : Places) (room : roomy b ≡ true) where
       back : {A : Type 0} (l xs : List A) → xs ≡ take (length xs) (put l 0 xs)
       back l xs = sym (part-at l 0 (length xs) xs (omega arith) refl)
 
-      go : (x : Outcome Problem) → answered z ≡ sized (given true x) → b' ≡ filled (given true x) b
+      go : (x : Outcome Problem) → answered z ≡ sizesAnswered (withRoom true x) → b' ≡ filledPlaces (withRoom true x) b
           → x ≡ answered (problemIn z (b' .targets) (b' .values) (b' .starts) (b' .rows))
       go (refused m q) e l = cc
       go (answered P) e l =
@@ -81,8 +81,8 @@ unfolding answerCall answerLeft printed
 fit-printed f P out out' r ep er el = (er ∙ rw ep, el ∙ rw ep)
 
 -- ---- the program's own places are enough
-pub own-room : (x : Float) → roomy (places (replicate 6144 x) (replicate 4096 x) (replicate 12288 0) (replicate 12288 0)) ≡ true
-unfolding roomy _and_
+pub own-room : (x : Float) → placesSuffice (places (replicate 6144 x) (replicate 4096 x) (replicate 12288 0) (replicate 12288 0)) ≡ true
+unfolding placesSuffice _and_
 own-room x = refl
 
 pub own-places : (z : Sizes) (t v : List Float) (s r : List ℕ) (x : Float) → length t ≡ length (replicate 6144 x) → length v ≡ length (replicate 4096 x)

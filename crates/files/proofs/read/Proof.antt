@@ -7,7 +7,7 @@ use denote.Ref.{now}
 use Rattle.doubles.specs.Buffer.{put}
 use Rattle.files.specs.Problem.{readAll}
 use Rattle.files.proofs.Laws.Calls.{places-same, room-of, too-long, not-ended, some-read, no-room, read-well, sizes-read, sizes-inside}
-use Rattle.files.specs.Call.{Places, roomy, places}
+use Rattle.files.specs.Call.{Places, placesSuffice, places}
 use Rattle.files.specs.Places.{Header}
 use mathlib.Core.Bool.{false≢true}
 use borrow.Author.Needs.{needs}
@@ -43,8 +43,8 @@ headed c =
     some-read _ (lent (entry (short pass))) (short pass .if1 .left) _ counts _ (c .before .has-ended .ensures) (c .if2 .taken)
 
 -- the test of the room is that of what was lent
-room : (c : tie.After-has-room) → c .has-room .result ≡ roomy (lent (entry (short (first (c .before .before .before .before .before .before)))))
-room c = c .has-room .ensures ∙ ap roomy (untouched (first (c .before .before .before .before .before .before)))
+room : (c : tie.After-has-room) → c .has-room .result ≡ placesSuffice (lent (entry (short (first (c .before .before .before .before .before .before)))))
+room c = c .has-room .ensures ∙ ap placesSuffice (untouched (first (c .before .before .before .before .before .before)))
 
 -- the second pass puts what was read into the first places of what was lent
 stored : (c : tie.After-read-fields2) → let r = c .read-fields2 .last .1 .1 in
