@@ -10,7 +10,7 @@ use Rattle.files.specs.declared.Sizes.{Sizes}
 use Rattle.answers.specs.Printed.{printedFor}
 
 -- its arrays lie in the first places, and its sizes are the program's
-pub record Held (z : Sizes) (a b c d : ℕ) : Type 0 where
+pub record ProblemInside (z : Sizes) (a b c d : ℕ) : Type 0 where
   pub targets : z .targets ≤ a
   pub values : z .values ≤ b
   pub starts : z .starts ≤ c

@@ -21,7 +21,7 @@ fn fit_listing(
     rows: &[u32],
     out: &mut [u8],
 ) -> Written
-    requires { ⌜ here.Held problem (length (now targets)) (length (now values)) (length (now starts)) (length (now rows)) ⌝ }
+    requires { ⌜ here.ProblemInside problem (length (now targets)) (length (now values)) (length (now starts)) (length (now rows)) ⌝ }
     ensures { λ r. ⌜ (let text = here.printedIn problem (now (targets .entry)) (now (values .entry)) (now (starts .entry)) (now (rows .entry)) in
         (writtenOf r ≡ def.textCall text (now (out .entry))) × (now (out .exit) ≡ def.textLeft text (now (out .entry)))
         × Short (writtenOf r) (length (now (out .entry)))) ⌝ }

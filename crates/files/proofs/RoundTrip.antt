@@ -26,7 +26,7 @@ use Rattle.files.specs.Problem.{Read, nothingRead, isCsc, headerShape, h
 use Rattle.files.specs.Problem.{knownTag, elementSize, stored, goodField, goodAt, good, joined, nextRead, readOn, readAll}
 use Rattle.files.specs.Call.{Problem, problem, readWhole, parsed}
 use Rattle.files.specs.Written.{bytes, field, designCode, penaltyCode, extrapolateCode, secondOf, bytesOf, bytes32}
-use Rattle.files.specs.Written.{header, sparse, written, Double, Doubles, Word, Words, OwnDoubles, Fitting}
+use Rattle.files.specs.Written.{header, sparse, written, Double, AllDoubles, Word, AllWords, OwnDoubles, Fitting}
 use Rattle.files.proofs.Laws.Walk.{at-end, one-more}
 use Rattle.files.proofs.Laws.Lies.{Lies, lies-first, lies-behind, lies-length, byte-there, u16-there, u16-back}
 use Rattle.files.proofs.Laws.Lies.{u32-back, f64-back, doubles-long, words-long, doubles-back, words-back}
@@ -223,14 +223,14 @@ module _ (f : List ℕ) (few : length f ≤ 49152) where
 
   -- targets or values
   module _ (s : Read) (t : ℕ) (xs : List Float) (rest : List ℕ) (R : Reached f (field t (flatMap bytesOf xs) ++ rest) s) where
-    doubles-next : t ≤ 3 → Doubles xs → nextRead f s ≡ with-doubles s t xs
+    doubles-next : t ≤ 3 → AllDoubles xs → nextRead f s ≡ with-doubles s t xs
     doubles-next h g =
         let body = flatMap bytesOf xs in
         let many : length body / 8 ≡ length xs = rw (doubles-long xs) (omega arith) in
         let back = doubles-back f (s .at + 3) xs rest (body-lies f (s .at) t body rest (R .lies) few) g in
         field-next s t body rest R ∙ rw (many, back, ne-eqb t 4 (λ e. omega arith), ne-eqb t 5 (λ e. omega arith))
 
-    doubles-read : 2 ≤ t → t ≤ 3 → s .tag ≤ t → Doubles xs → stored t (length (s .values)) (length xs) ≡ true → Reached f rest (with-doubles s t xs)
+    doubles-read : 2 ≤ t → t ≤ 3 → s .tag ≤ t → AllDoubles xs → stored t (length (s .values)) (length xs) ≡ true → Reached f rest (with-doubles s t xs)
     doubles-read l h k g q =
         let body = flatMap bytesOf xs in
         let long = doubles-long xs in
@@ -246,14 +246,14 @@ module _ (f : List ℕ) (few : length f ≤ 49152) where
 
   -- starts or rows
   module _ (s : Read) (t : ℕ) (ns : List ℕ) (rest : List ℕ) (R : Reached f (field t (flatMap bytes32 ns) ++ rest) s) where
-    words-next : 4 ≤ t → Words ns → nextRead f s ≡ with-words s t ns
+    words-next : 4 ≤ t → AllWords ns → nextRead f s ≡ with-words s t ns
     words-next h g =
         let body = flatMap bytes32 ns in
         let many : length body / 4 ≡ length ns = rw (words-long ns) (omega arith) in
         let back = words-back f (s .at + 3) ns rest (body-lies f (s .at) t body rest (R .lies) few) g in
         field-next s t body rest R ∙ rw (many, back, ne-eqb t 2 (λ e. omega arith), ne-eqb t 3 (λ e. omega arith))
 
-    words-read : isCsc f ≡ true → 4 ≤ t → t ≤ 5 → s .tag ≤ t → Words ns → Reached f rest (with-words s t ns)
+    words-read : isCsc f ≡ true → 4 ≤ t → t ≤ 5 → s .tag ≤ t → AllWords ns → Reached f rest (with-words s t ns)
     words-read c l h k g =
         let body = flatMap bytes32 ns in
         let long = words-long ns in

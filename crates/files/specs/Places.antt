@@ -21,7 +21,7 @@ abbrev pub Headed : List ℕ → ℕ → Type 0
 Headed f o = (o ≡ 0 → ⊥) → Header f
 
 -- what the code keeps of what was read: the places, and how many elements each array has; each element took its bytes
-pub record Counts (f : List ℕ) (c : Cursor) (s : Read) : Type 0 where
+pub record Counted (f : List ℕ) (c : Cursor) (s : Read) : Type 0 where
   pub at : c .at ≡ s .at
   pub tag : c .tag ≡ s .tag
   pub targets : c .targets ≡ length (s .targets)

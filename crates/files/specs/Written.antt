@@ -81,14 +81,14 @@ written P =
 abbrev pub Double : Float → Type 0
 Double x = T (fits binary64 x)
 
-abbrev pub Doubles : List Float → Type 0
-Doubles xs = (i : ℕ) → i < length xs → Double (at xs i)
+abbrev pub AllDoubles : List Float → Type 0
+AllDoubles xs = (i : ℕ) → i < length xs → Double (at xs i)
 
 abbrev pub Word : ℕ → Type 0
 Word n = n < 4294967296
 
-abbrev pub Words : List ℕ → Type 0
-Words ns = (i : ℕ) → i < length ns → Word (getD ns i 0)
+abbrev pub AllWords : List ℕ → Type 0
+AllWords ns = (i : ℕ) → i < length ns → Word (getD ns i 0)
 
 -- a penalty's own numbers
 abbrev pub OwnDoubles : Penalty → Type 0
@@ -106,8 +106,8 @@ pub record Fitting (P : Problem) : Type 0 where
   pub epochs : Word (P .settings .epochs)
   pub tolerance : Double (P .settings .tolerance)
   pub penalty : OwnDoubles (P .settings .penalty)
-  pub targets : Doubles (P .given .targets)
-  pub values : Doubles (P .given .values)
-  pub starts : Words (P .given .starts)
-  pub rows : Words (P .given .rows)
+  pub targets : AllDoubles (P .given .targets)
+  pub values : AllDoubles (P .given .values)
+  pub starts : AllWords (P .given .starts)
+  pub rows : AllWords (P .given .rows)
   pub dense : P .given .shape .layout ≡ Dense → (P .given .starts ≡ []) × (P .given .rows ≡ [])

@@ -285,7 +285,7 @@ fn read_fields(
 ) -> Cursor
     requires { ⌜ (length (now file) ≤ 49152)
         × (keep ≡ true → here.Suffice (length (now targets)) (length (now values)) (length (now starts)) (length (now rows))) ⌝ }
-    ensures { λ r. ⌜ here.Counts (now (file .entry)) r (def.readAll (now (file .entry)))
+    ensures { λ r. ⌜ here.Counted (now (file .entry)) r (def.readAll (now (file .entry)))
         × (now (targets .exit) ≡ here.keptIf keep (now (targets .entry)) (def.readAll (now (file .entry)) .targets))
         × (now (values .exit) ≡ here.keptIf keep (now (values .entry)) (def.readAll (now (file .entry)) .values))
         × (now (starts .exit) ≡ here.keptIf keep (now (starts .entry)) (def.readAll (now (file .entry)) .starts))

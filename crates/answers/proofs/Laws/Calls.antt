@@ -20,7 +20,7 @@ use Rattle.files.specs.declared.Sizes.{Sizes}
 use Rattle.listings.specs.Call.{writeCall, writeLeft}
 use Rattle.listings.proofs.Laws.Calls.{write-fits}
 use Rattle.answers.specs.Printed.{problemFit, problemLeft, printedFor, printed, textCall, textLeft, answerCall, answerLeft}
-use Rattle.answers.specs.InPlaces.{Held, problemIn}
+use Rattle.answers.specs.InPlaces.{ProblemInside, problemIn}
 
 take-few : (p m : ℕ) (l : List Float) → p ≤ length l → p ≤ m → length (take p l) ≤ m
 take-few p m l h k = le-trans (le-of-eq (length-take-le p l h)) k
@@ -87,7 +87,7 @@ own-room x = refl
 pub own-places : (z : Sizes) (t v : List Float) (s r : List ℕ) (x : Float) → length t ≡ length (replicate 6144 x) → length v ≡ length (replicate 4096 x)
     → length s ≡ length (replicate {A = ℕ} 12288 0) → length r ≡ length (replicate {A = ℕ} 12288 0)
     → (z .targets ≤ 6144) × (z .values ≤ 4096) × (z .starts ≤ 12288) × (z .rows ≤ 12288) × (z .shape .n ≤ 256) × (z .shape .p ≤ 32)
-    → Held z (length t) (length v) (length s) (length r)
+    → ProblemInside z (length t) (length v) (length s) (length r)
 own-places z t v s r x et ev es er i =
     let a = length-replicate 6144 x in
     let b = length-replicate 4096 x in

@@ -15,7 +15,7 @@ use Rattle.designs.specs.declared.Shape.{Shape}
 use Rattle.runs.specs.declared.Settings.{Settings}
 use Rattle.files.specs.Problem.{readAll, headerShape, headerSettings, goodHeader}
 use Rattle.files.specs.Call.{problem, readWhole, parsed, Places, places, placesSuffice, readProblem, sizesOf, readCall, readLeft}
-use Rattle.files.specs.Places.{Header, Counts, Suffice, readWholeAt}
+use Rattle.files.specs.Places.{Header, Counted, Suffice, readWholeAt}
 use Rattle.files.specs.declared.Cursor.{Cursor}
 use Rattle.files.specs.declared.Sizes.{Sizes}
 
@@ -42,7 +42,7 @@ module _ (f : List ℕ) (b : Places) where
   unfolding readProblem parsed
   too-long h o e = left-refused 9 49152 (rw (lt-leb (length f) 49152 h)) o b e refl
 
-  module _ (l : length f ≤ 49152) (c : Cursor) (C : Counts f c (readAll f)) (u : Bool) (eu : u ≡ readWholeAt f (c .at)) where
+  module _ (l : length f ≤ 49152) (c : Cursor) (C : Counted f c (readAll f)) (u : Bool) (eu : u ≡ readWholeAt f (c .at)) where
     here : u ≡ readWhole f (readAll f)
     unfolding readWhole
     here = eu ∙ rw (C .at)
@@ -79,7 +79,7 @@ module _ (f : List ℕ) (b : Places) where
         read-well o b' eo eb = rw fine (eo, eb)
 
 -- the sizes, as the second pass counted them
-module _ (f : List ℕ) (d : Cursor) (C : Counts f d (readAll f)) where
+module _ (f : List ℕ) (d : Cursor) (C : Counted f d (readAll f)) where
   pub sizes-read : (a : Shape) (e : Settings) → a ≡ headerShape f → e ≡ headerSettings f
       → answered (record { shape = a; settings = e; targets = d .targets; values = d .values; starts = d .starts; rows = d .rows })
       ≡ answered (sizesOf (problem f (readAll f)))

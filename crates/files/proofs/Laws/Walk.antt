@@ -16,7 +16,7 @@ use Rattle.doubles.proofs.Laws.Steps.{length-tab}
 use Rattle.doubles.proofs.Laws.Buffer.{length-put, put-behind}
 use Rattle.files.specs.Bytes.{u32, f64, doubles, indices}
 use Rattle.files.specs.Problem.{Read, nothingRead, tagAt, lengthAt, whole, stored, goodHeader, goodField, goodAt, good, joined, nextRead, readOn, readAll}
-use Rattle.files.specs.Places.{Header, Headed, Counts, grownBy, advanced, Space, Suffice, storedIn, indexedIn, keptIf}
+use Rattle.files.specs.Places.{Header, Headed, Counted, grownBy, advanced, Space, Suffice, storedIn, indexedIn, keptIf}
 use Rattle.files.specs.declared.Cursor.{Cursor}
 use Rattle.files.proofs.Laws.Fields.{head-inside, body-inside, header-long}
 
@@ -99,7 +99,7 @@ fours : (b : Bool) (n m a : ℕ) → 4 * n ≤ a → 4 * grownBy n b (m / 4) ≤
 fours true n m a h = omega arith
 fours false n m a h = omega arith
 
-module _ (f : List ℕ) (c : Cursor) (s : Read) (C : Counts f c s) where
+module _ (f : List ℕ) (c : Cursor) (s : Read) (C : Counted f c s) where
   pub good-by : (b : Bool) → b ≡ goodAt f (c .at) (c .tag) (c .values) → b ≡ good f s
   good-by b e = e ∙ rw (C .at, C .tag, C .values)
 
@@ -107,7 +107,7 @@ module _ (f : List ℕ) (c : Cursor) (s : Read) (C : Counts f c s) where
     whole-here : whole f (c .at) ≡ true
     whole-here = rw (C .at) (good-whole f s g)
 
-    pub counts-next : Counts f (advanced f c) (nextRead f s)
+    pub counts-next : Counted f (advanced f c) (nextRead f s)
     unfolding advanced nextRead
     counts-next =
         let t = tagAt f (s .at) in
@@ -175,7 +175,7 @@ kept-length false l xs m e h = ap length e
 pub record Walked (f : List ℕ) (keep : Bool) (t₀ v₀ : List Float) (s₀ r₀ : List ℕ) (t v : List Float) (s r : List ℕ) (c : Cursor) (more : Bool) : Type 0 where
   pub so-far : Read
   pub rest : readAll f ≡ readOn f (length f) so-far
-  pub counts : Counts f c so-far
+  pub counts : Counted f c so-far
   pub goes-on : more ≡ good f so-far
   pub targets : t ≡ keptIf keep t₀ (so-far .targets)
   pub values : v ≡ keptIf keep v₀ (so-far .values)
@@ -184,7 +184,7 @@ pub record Walked (f : List ℕ) (keep : Bool) (t₀ v₀ : List Float) (s₀ r�
 
 module _ (f : List ℕ) (keep : Bool) (t₀ v₀ : List Float) (s₀ r₀ : List ℕ) (l : length f ≤ 49152)
     (room : keep ≡ true → Suffice (length t₀) (length v₀) (length s₀) (length r₀)) where
-  counts-none : Counts f (record { at = 0; tag = 0; targets = 0; values = 0; starts = 0; rows = 0 }) nothingRead
+  counts-none : Counted f (record { at = 0; tag = 0; targets = 0; values = 0; starts = 0; rows = 0 }) nothingRead
   counts-none = record {
     at = refl;
     tag = refl;
@@ -279,7 +279,7 @@ module _ (f : List ℕ) (keep : Bool) (t₀ v₀ : List Float) (s₀ r₀ : List
           let x = W .so-far in
           let C = W .counts in
           let m = lengthAt f (c .at) in
-          let n : Counts f d (nextRead f x) = rw ed (counts-next f c x C here-good) in
+          let n : Counted f d (nextRead f x) = rw ed (counts-next f c x C here-good) in
           record {
             so-far = nextRead f x;
             rest = W .rest ∙ one-more f x ∙ rw here-good;
@@ -309,7 +309,7 @@ module _ (f : List ℕ) (keep : Bool) (t₀ v₀ : List Float) (s₀ r₀ : List
 
     -- the file is read
     pub walked-all : more ≡ false
-        → Counts f c (readAll f) × (t ≡ keptIf keep t₀ (readAll f .targets)) × (v ≡ keptIf keep v₀ (readAll f .values))
+        → Counted f c (readAll f) × (t ≡ keptIf keep t₀ (readAll f .targets)) × (v ≡ keptIf keep v₀ (readAll f .values))
         × (s ≡ keptIf keep s₀ (readAll f .starts)) × (r ≡ keptIf keep r₀ (readAll f .rows))
     walked-all h =
         let e : readAll f ≡ W .so-far = W .rest ∙ one-more f (W .so-far) ∙ rw (sym (W .goes-on) ∙ h) in
