@@ -24,22 +24,14 @@ shared-slice-read-if2 c = search needs
 returns-2 : tie.Need-returns-2
 unfolding headerPenalty
 returns-2 c =
-    rw (
-      ne-eqb _ _ (c .before .before .if1 .left),
-      eq-eqb _ _ (c .if2 .taken),
-      ← c .before .before .before .before .before .f64-at .ensures,
-      ← c .before .before .before .before .f64-at2 .ensures,
-    )
+    let second = c .before .before .before .before in
+    rw (ne-eqb _ _ (c .before .before .if1 .left), eq-eqb _ _ (c .if2 .taken), ← second .before .f64-at .ensures, ← second .f64-at2 .ensures)
 
 returns-3 : tie.Need-returns-3
 unfolding headerPenalty
 returns-3 c =
-    rw (
-      ne-eqb _ _ (c .before .before .if1 .left),
-      ne-eqb _ _ (c .if2 .left),
-      ← c .before .before .before .before .before .f64-at .ensures,
-      ← c .before .before .before .before .f64-at2 .ensures,
-    )
+    let second = c .before .before .before .before in
+    rw (ne-eqb _ _ (c .before .before .if1 .left), ne-eqb _ _ (c .if2 .left), ← second .before .f64-at .ensures, ← second .f64-at2 .ensures)
 
 pub penalty-of-spec : {M : Type 1} → statement M
 penalty-of-spec =
