@@ -6,24 +6,27 @@ use lib.ListN.{length, take, replicate}
 use Rattle.doubles.specs.Num.{#0, pick}
 use Rattle.doubles.specs.Buffer.{put}
 use Rattle.doubles.specs.Answer.{Outcome, refused, answered}
-use Rattle.runs.specs.Call.{Lent, fitCall, fitLeft}
+use Rattle.runs.specs.Call.{Lent, lent, fitCall, fitLeft}
 use Rattle.runs.specs.declared.Report.{Report}
 use Rattle.files.specs.Call.{Problem, parsed}
 use Rattle.listings.specs.Listing.{refusedLine, listed}
 
 -- what the program lends to a fit: room for its largest sizes, n = 256, p = 32 and K = 10
 abbrev pub lentPlaces : Lent
-lentPlaces = record { weights = replicate 32 #0; fit = replicate 256 #0; indices = replicate 32 0; scratch = replicate 1056 #0 }
+lentPlaces = lent (replicate 32 #0) (replicate 256 #0) (replicate 32 0) (replicate 1056 #0)
 
-unfoldable pub fitted : Problem → Outcome Report
-fitted P = fitCall (P .shape) (P .starts) (P .rows) (P .values) (P .targets) (P .settings) lentPlaces
+-- its answer, and what it leaves in these places
+unfoldable pub problemFit : Problem → Outcome Report
+problemFit P = fitCall (P .given) (P .settings) lentPlaces
 
-unfoldable pub left : Problem → Lent
-left P = fitLeft (P .shape) (P .starts) (P .rows) (P .values) (P .targets) (P .settings) lentPlaces
+unfoldable pub problemLeft : Problem → Lent
+problemLeft P = fitLeft (P .given) (P .settings) lentPlaces
 
 abbrev pub printedFor : Outcome Problem → List ℕ
 printedFor (refused number place) = refusedLine number place
-printedFor (answered P) = listed (fitted P) (take (P .shape .p) (left P .weights)) (take (P .shape .n) (left P .fit))
+printedFor (answered P) =
+    let s = P .given .shape in
+    listed (problemFit P) (take (s .p) (problemLeft P .weights)) (take (s .n) (problemLeft P .fit))
 
 unfoldable pub printed : List ℕ → List ℕ
 printed f = printedFor (parsed f)

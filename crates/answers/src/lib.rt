@@ -3,7 +3,7 @@ ghost use mathlib.Core.Path.{_≡_};
 ghost use lib.ListN.{length};
 ghost use Rattle.listings.specs.Call.{writtenOf, Short};
 ghost use Rattle.answers.specs.Printed as def;
-ghost use Rattle.answers.specs.Given as given;
+ghost use Rattle.answers.specs.InPlaces as here;
 use files::Parsed;
 use files::Sizes;
 use files::read;
@@ -21,8 +21,8 @@ fn fit_listing(
     rows: &[u32],
     out: &mut [u8],
 ) -> Written
-    requires { ⌜ given.Inside problem (length (now targets)) (length (now values)) (length (now starts)) (length (now rows)) ⌝ }
-    ensures { λ r. ⌜ (let text = given.listing problem (now (targets .entry)) (now (values .entry)) (now (starts .entry)) (now (rows .entry)) in
+    requires { ⌜ here.ProblemInside problem (length (now targets)) (length (now values)) (length (now starts)) (length (now rows)) ⌝ }
+    ensures { λ r. ⌜ (let text = here.printedIn problem (now (targets .entry)) (now (values .entry)) (now (starts .entry)) (now (rows .entry)) in
         (writtenOf r ≡ def.textCall text (now (out .entry))) × (now (out .exit) ≡ def.textLeft text (now (out .entry)))
         × Short (writtenOf r) (length (now (out .entry)))) ⌝ }
 {

@@ -13,18 +13,20 @@ use lib.Ieee.Bits.{ofBits-fits}
 use borrow.Author.Tests.{le-leb, lt-leb, lt-ltb, eq-eqb, ne-eqb}
 use Rattle.doubles.specs.Num.{pick, _and_}
 use Rattle.doubles.specs.Answer.{answered}
+use Rattle.leaves.specs.Penalty.{alphaOf}
 use Rattle.leaves.specs.declared.penalties.separable.Penalty.{Penalty}
 use Rattle.leaves.specs.declared.penalties.separable.Penalty.the-variants.{L1, L1PlusL2, MCP}
 use Rattle.designs.specs.declared.Layout.{Layout}
 use Rattle.designs.specs.declared.Layout.the-variants.{Dense, Csc}
 use Rattle.designs.specs.declared.Shape.{Shape}
+use Rattle.designs.specs.Given.{given}
 use Rattle.runs.specs.declared.Settings.{Settings}
 use Rattle.files.specs.Bytes.{byte, u16, u32, u64, f64, doubles, indices}
-use Rattle.files.specs.Problem.{Read, nothing, isCsc, shapeOf, penaltyOf, settingsOf, goodHeader, tagAt, lengthAt, whole}
-use Rattle.files.specs.Problem.{known, sizeOf, stored, goodField, goodAt, good, joined, next, readOn, readAll}
-use Rattle.files.specs.Call.{Problem, problem, ended, parsed}
-use Rattle.files.specs.Written.{bytes, field, designCode, penaltyCode, extrapolateCode, alphaOf, secondOf, bytesOf, bytes32}
-use Rattle.files.specs.Written.{header, sparse, written, Double, Doubles, Word, Words, OwnDoubles, Fitting}
+use Rattle.files.specs.Problem.{Read, nothingRead, isCsc, headerShape, headerPenalty, headerSettings, goodHeader, tagAt, lengthAt, whole}
+use Rattle.files.specs.Problem.{knownTag, elementSize, stored, goodField, goodAt, good, joined, nextRead, readOn, readAll}
+use Rattle.files.specs.Call.{Problem, problem, readWhole, parsed}
+use Rattle.files.specs.Written.{bytes, field, designCode, penaltyCode, extrapolateCode, secondOf, bytesOf, bytes32}
+use Rattle.files.specs.Written.{header, sparse, written, Double, AllDoubles, Word, AllWords, OwnDoubles, Fitting}
 use Rattle.files.proofs.Laws.Walk.{at-end, one-more}
 use Rattle.files.proofs.Laws.Lies.{Lies, lies-first, lies-behind, lies-length, byte-there, u16-there, u16-back}
 use Rattle.files.proofs.Laws.Lies.{u32-back, f64-back, doubles-long, words-long, doubles-back, words-back}
@@ -87,13 +89,13 @@ module _ (a : Shape) (s : Settings) (rest : List ℕ) where
   unfolding field header bytes u32 u16
   p-back h = u32-back (a .p) [] h
 
-  shape-back : Word (a .n) → Word (a .p) → shapeOf headed ≡ a
-  unfolding shapeOf field header bytes
+  shape-back : Word (a .n) → Word (a .p) → headerShape headed ≡ a
+  unfolding headerShape field header bytes
   shape-back n p = λ i. record { layout = layout-back (a .layout) i; n = n-back n i; p = p-back p i }
 
   settings-back : Word (s .start) → Word (s .iterations) → Word (s .epochs) → s .depth < 256 → Double (s .tolerance) → OwnDoubles (s .penalty)
-      → settingsOf headed ≡ s
-  unfolding settingsOf penaltyOf field header bytes f64 u64 u32 u16
+      → headerSettings headed ≡ s
+  unfolding headerSettings headerPenalty field header bytes f64 u64 u32 u16
   settings-back start iterations epochs small tolerance own =
       let q = s .penalty in
       let x = f64-back (alphaOf q) [] (alpha-fits q own) in
@@ -150,7 +152,7 @@ record Reached (f rest : List ℕ) (s : Read) : Type 0 where
   lies : Lies f (s .at) rest
   begun : 0 < s .at
 
-one-turn : (f : List ℕ) (s : Read) → readAll f ≡ readOn f (length f) s → good f s ≡ true → readAll f ≡ readOn f (length f) (next f s)
+one-turn : (f : List ℕ) (s : Read) → readAll f ≡ readOn f (length f) s → good f s ≡ true → readAll f ≡ readOn f (length f) (nextRead f s)
 one-turn f s e g = e ∙ one-more f s ∙ rw g
 
 -- s and a field more, of tag t: with a body of m bytes, with doubles, with u32 numbers
@@ -184,14 +186,14 @@ with-words s t ns = record {
   rows = joined t 5 (s .rows) ns;
 }
 
-known-tag : (f : List ℕ) (t : ℕ) (c : Bool) → isCsc f ≡ c → 2 ≤ t → t ≤ pick c 5 3 → known f t ≡ true
-unfolding known
+known-tag : (f : List ℕ) (t : ℕ) (c : Bool) → isCsc f ≡ c → 2 ≤ t → t ≤ pick c 5 3 → knownTag f t ≡ true
+unfolding knownTag
 known-tag f t c e h k = rw e (both-hold (le-leb 2 t h) (le-leb t (pick c 5 3) k))
 
 module _ (f : List ℕ) (few : length f ≤ 49152) where
   -- the last field was read
   all-read : (s : Read) → Reached f [] s → parsed f ≡ answered (problem f s)
-  unfolding parsed ended
+  unfolding parsed readWhole
   all-read s R =
       let n : length f ≡ s .at = lies-length (R .lies) ∙ add-zero (s .at) in
       let e : readAll f ≡ s = R .so-far ∙ one-more f s ∙ rw (at-end f s (omega arith)) in
@@ -199,7 +201,7 @@ module _ (f : List ℕ) (few : length f ≤ 49152) where
 
   -- a field behind the header
   module _ (s : Read) (t : ℕ) (body rest : List ℕ) (R : Reached f (field t body ++ rest) s) where
-    field-good : known f t ≡ true → s .tag ≤ t → length body % sizeOf t ≡ 0 → stored t (length (s .values)) (length body / 8) ≡ true → good f s ≡ true
+    field-good : knownTag f t ≡ true → s .tag ≤ t → length body % elementSize t ≡ 0 → stored t (length (s .values)) (length body / 8) ≡ true → good f s ≡ true
     unfolding goodAt goodField
     field-good k h m q =
         let b = R .begun in
@@ -208,11 +210,11 @@ module _ (f : List ℕ) (few : length f ≤ 49152) where
         both-hold (here-whole f (s .at) t body rest (R .lies) few)
         (rw (ne-eqb (s .at) 0 (λ z. omega arith), tag, long) (both-hold k (both-hold (le-leb (s .tag) t h) (both-hold (eq-eqb _ 0 m) q))))
 
-    field-next : next f s ≡ with-body f s t (length body)
-    unfolding next
+    field-next : nextRead f s ≡ with-body f s t (length body)
+    unfolding nextRead
     field-next = rw (here-tag f (s .at) t body rest (R .lies) few, here-length f (s .at) t body rest (R .lies) few)
 
-    field-read : (u : Read) → good f s ≡ true → next f s ≡ u → u .at ≡ s .at + 3 + length body → Reached f rest u
+    field-read : (u : Read) → good f s ≡ true → nextRead f s ≡ u → u .at ≡ s .at + 3 + length body → Reached f rest u
     field-read u g e n = record {
       so-far = rw e at (one-turn f s (R .so-far) g);
       lies = rw n (rest-lies f (s .at) t body rest (R .lies) few);
@@ -221,41 +223,41 @@ module _ (f : List ℕ) (few : length f ≤ 49152) where
 
   -- targets or values
   module _ (s : Read) (t : ℕ) (xs : List Float) (rest : List ℕ) (R : Reached f (field t (flatMap bytesOf xs) ++ rest) s) where
-    doubles-next : t ≤ 3 → Doubles xs → next f s ≡ with-doubles s t xs
+    doubles-next : t ≤ 3 → AllDoubles xs → nextRead f s ≡ with-doubles s t xs
     doubles-next h g =
         let body = flatMap bytesOf xs in
         let many : length body / 8 ≡ length xs = rw (doubles-long xs) (omega arith) in
         let back = doubles-back f (s .at + 3) xs rest (body-lies f (s .at) t body rest (R .lies) few) g in
         field-next s t body rest R ∙ rw (many, back, ne-eqb t 4 (λ e. omega arith), ne-eqb t 5 (λ e. omega arith))
 
-    doubles-read : 2 ≤ t → t ≤ 3 → s .tag ≤ t → Doubles xs → stored t (length (s .values)) (length xs) ≡ true → Reached f rest (with-doubles s t xs)
+    doubles-read : 2 ≤ t → t ≤ 3 → s .tag ≤ t → AllDoubles xs → stored t (length (s .values)) (length xs) ≡ true → Reached f rest (with-doubles s t xs)
     doubles-read l h k g q =
         let body = flatMap bytesOf xs in
         let long = doubles-long xs in
         let many : length body / 8 ≡ length xs = omega arith in
-        let wide : length body % sizeOf t ≡ 0 = rw (le-leb t 3 h) (omega arith) in
+        let wide : length body % elementSize t ≡ 0 = rw (le-leb t 3 h) (omega arith) in
         field-read s t body rest R (with-doubles s t xs)
         (field-good s t body rest R (tag-known (isCsc f) refl) k wide (rw many q))
         (doubles-next h g) refl
       where
-        tag-known : (c : Bool) → isCsc f ≡ c → known f t ≡ true
+        tag-known : (c : Bool) → isCsc f ≡ c → knownTag f t ≡ true
         tag-known true e = known-tag f t true e l (omega arith)
         tag-known false e = known-tag f t false e l h
 
   -- starts or rows
   module _ (s : Read) (t : ℕ) (ns : List ℕ) (rest : List ℕ) (R : Reached f (field t (flatMap bytes32 ns) ++ rest) s) where
-    words-next : 4 ≤ t → Words ns → next f s ≡ with-words s t ns
+    words-next : 4 ≤ t → AllWords ns → nextRead f s ≡ with-words s t ns
     words-next h g =
         let body = flatMap bytes32 ns in
         let many : length body / 4 ≡ length ns = rw (words-long ns) (omega arith) in
         let back = words-back f (s .at + 3) ns rest (body-lies f (s .at) t body rest (R .lies) few) g in
         field-next s t body rest R ∙ rw (many, back, ne-eqb t 2 (λ e. omega arith), ne-eqb t 3 (λ e. omega arith))
 
-    words-read : isCsc f ≡ true → 4 ≤ t → t ≤ 5 → s .tag ≤ t → Words ns → Reached f rest (with-words s t ns)
+    words-read : isCsc f ≡ true → 4 ≤ t → t ≤ 5 → s .tag ≤ t → AllWords ns → Reached f rest (with-words s t ns)
     words-read c l h k g =
         let body = flatMap bytes32 ns in
         let long = words-long ns in
-        let wide : length body % sizeOf t ≡ 0 = rw (lt-leb t 3 l) (omega arith) in
+        let wide : length body % elementSize t ≡ 0 = rw (lt-leb t 3 l) (omega arith) in
         field-read s t body rest R (with-words s t ns)
         (field-good s t body rest R (known-tag f t true c (omega arith) h) k wide (rw (ne-eqb t 3 (λ e. omega arith))))
         (words-next l g) refl
@@ -264,8 +266,8 @@ module _ (f : List ℕ) (few : length f ≤ 49152) where
 abbrev begin : Read
 begin = record { at = 51; tag = 1; targets = []; values = []; starts = []; rows = [] }
 
-header-next : (a : Shape) (s : Settings) (rest : List ℕ) → next (headed a s rest) nothing ≡ begin
-unfolding next field header bytes u16
+header-next : (a : Shape) (s : Settings) (rest : List ℕ) → nextRead (headed a s rest) nothingRead ≡ begin
+unfolding nextRead field header bytes u16
 header-next a s rest = refl
 
 header-long : (a : Shape) (s : Settings) → 0 + 3 + length (header a s) ≡ 51
@@ -273,14 +275,14 @@ unfolding header bytes
 header-long a s = refl
 
 module _ (a : Shape) (s : Settings) (rest : List ℕ) (few : length (headed a s rest) ≤ 49152) (n : a .n ≤ 256) (p : a .p ≤ 32) where
-  header-passed : good (headed a s rest) nothing ≡ true
+  header-passed : good (headed a s rest) nothingRead ≡ true
   unfolding goodAt
   header-passed = both-hold (here-whole (headed a s rest) 0 1 (header a s) rest (lies-first (headed a s rest)) few) (header-good a s rest n p)
 
   header-read : Reached (headed a s rest) rest begin
   unfolding readAll
   header-read = record {
-    so-far = rw (header-next a s rest) at (one-turn (headed a s rest) nothing refl header-passed);
+    so-far = rw (header-next a s rest) at (one-turn (headed a s rest) nothingRead refl header-passed);
     lies = rw (header-long a s) at (rest-lies (headed a s rest) 0 1 (header a s) rest (lies-first (headed a s rest)) few);
     begun = omega arith;
   }
@@ -288,48 +290,48 @@ module _ (a : Shape) (s : Settings) (rest : List ℕ) (few : length (headed a s 
 -- ---- the whole file
 module _ (P : Problem) where
   abbrev last-fields : Layout → List ℕ
-  last-fields g = sparse g (P .starts) (P .rows)
+  last-fields g = sparse g (P .given .starts) (P .given .rows)
 
   abbrev values-on : List ℕ
-  values-on = field 3 (flatMap bytesOf (P .values)) ++ last-fields (P .shape .layout)
+  values-on = field 3 (flatMap bytesOf (P .given .values)) ++ last-fields (P .given .shape .layout)
 
   abbrev targets-on : List ℕ
-  targets-on = field 2 (flatMap bytesOf (P .targets)) ++ values-on
+  targets-on = field 2 (flatMap bytesOf (P .given .targets)) ++ values-on
 
   abbrev file : List ℕ
-  file = headed (P .shape) (P .settings) targets-on
+  file = headed (P .given .shape) (P .settings) targets-on
 
   abbrev main-read : Read
-  main-read = with-doubles (with-doubles begin 2 (P .targets)) 3 (P .values)
+  main-read = with-doubles (with-doubles begin 2 (P .given .targets)) 3 (P .given .values)
 
   module _ (F : Fitting P) (few : length file ≤ 49152) where
-    main-reached : Reached file (last-fields (P .shape .layout)) main-read
+    main-reached : Reached file (last-fields (P .given .shape .layout)) main-read
     main-reached =
-        let h = header-read (P .shape) (P .settings) targets-on few (F .samples) (F .features) in
-        let t = doubles-read file few begin 2 (P .targets) values-on h (omega arith) (omega arith) (omega arith) (F .targets) refl in
-        doubles-read file few (with-doubles begin 2 (P .targets)) 3 (P .values) (last-fields (P .shape .layout)) t
-        (omega arith) (omega arith) (omega arith) (F .values) (let q = F .stored in le-leb (0 + length (P .values)) 4096 (omega arith))
+        let h = header-read (P .given .shape) (P .settings) targets-on few (F .samples) (F .features) in
+        let t = doubles-read file few begin 2 (P .given .targets) values-on h (omega arith) (omega arith) (omega arith) (F .targets) refl in
+        doubles-read file few (with-doubles begin 2 (P .given .targets)) 3 (P .given .values) (last-fields (P .given .shape .layout)) t
+        (omega arith) (omega arith) (omega arith) (F .values) (let q = F .stored in le-leb (0 + length (P .given .values)) 4096 (omega arith))
 
     -- the same problem, if its arrays came back
-    same-problem : (s : Read) → s .targets ≡ P .targets → s .values ≡ P .values → s .starts ≡ P .starts → s .rows ≡ P .rows
+    same-problem : (s : Read) → s .targets ≡ P .given .targets → s .values ≡ P .given .values → s .starts ≡ P .given .starts → s .rows ≡ P .given .rows
         → answered (problem file s) ≡ answered P
     same-problem s t v b r =
         let n = F .samples in
         let p = F .features in
-        let e = shape-back (P .shape) (P .settings) targets-on (omega arith) (omega arith) in
-        let g = settings-back (P .shape) (P .settings) targets-on (F .start) (F .iterations) (F .epochs) (F .depth) (F .tolerance) (F .penalty) in
-        λ i. answered (record { shape = e i; settings = g i; targets = t i; values = v i; starts = b i; rows = r i })
+        let e = shape-back (P .given .shape) (P .settings) targets-on (omega arith) (omega arith) in
+        let g = settings-back (P .given .shape) (P .settings) targets-on (F .start) (F .iterations) (F .epochs) (F .depth) (F .tolerance) (F .penalty) in
+        λ i. answered (record { given = given (e i) (b i) (r i) (v i) (t i); settings = g i })
 
-    by-layout : (g : Layout) → P .shape .layout ≡ g → Reached file (last-fields g) main-read → parsed file ≡ answered P
+    by-layout : (g : Layout) → P .given .shape .layout ≡ g → Reached file (last-fields g) main-read → parsed file ≡ answered P
     by-layout Dense e R = all-read file few main-read R ∙ same-problem main-read refl refl (sym (F .dense e .0)) (sym (F .dense e .1))
     by-layout Csc e R =
-        let c : isCsc file ≡ true = ap (λ (g : ℕ). eqb g 1) (design-back (P .shape) (P .settings) targets-on ∙ ap designCode e) in
-        let rows-field = field 5 (flatMap bytes32 (P .rows)) in
-        let s = with-words main-read 4 (P .starts) in
-        let b = words-read file few main-read 4 (P .starts) rows-field R c (omega arith) (omega arith) (omega arith) (F .starts) in
-        let r = words-read file few s 5 (P .rows) [] (rw (append-nil rows-field) b) c (omega arith) (omega arith) (omega arith) (F .rows) in
-        all-read file few (with-words s 5 (P .rows)) r ∙ same-problem (with-words s 5 (P .rows)) refl refl refl refl
+        let c : isCsc file ≡ true = ap (λ (g : ℕ). eqb g 1) (design-back (P .given .shape) (P .settings) targets-on ∙ ap designCode e) in
+        let rows-field = field 5 (flatMap bytes32 (P .given .rows)) in
+        let s = with-words main-read 4 (P .given .starts) in
+        let b = words-read file few main-read 4 (P .given .starts) rows-field R c (omega arith) (omega arith) (omega arith) (F .starts) in
+        let r = words-read file few s 5 (P .given .rows) [] (rw (append-nil rows-field) b) c (omega arith) (omega arith) (omega arith) (F .rows) in
+        all-read file few (with-words s 5 (P .given .rows)) r ∙ same-problem (with-words s 5 (P .given .rows)) refl refl refl refl
 
 pub round-trip : (P : Problem) → Fitting P → length (written P) ≤ 49152 → parsed (written P) ≡ answered P
 unfolding written
-round-trip P F few = by-layout P F few (P .shape .layout) refl (main-reached P F few)
+round-trip P F few = by-layout P F few (P .given .shape .layout) refl (main-reached P F few)

@@ -21,7 +21,7 @@ abbrev pub Headed : List ℕ → ℕ → Type 0
 Headed f o = (o ≡ 0 → ⊥) → Header f
 
 -- what the code keeps of what was read: the places, and how many elements each array has; each element took its bytes
-pub record Counts (f : List ℕ) (c : Cursor) (s : Read) : Type 0 where
+pub record Counted (f : List ℕ) (c : Cursor) (s : Read) : Type 0 where
   pub at : c .at ≡ s .at
   pub tag : c .tag ≡ s .tag
   pub targets : c .targets ≡ length (s .targets)
@@ -58,7 +58,7 @@ pub record Space (f : List ℕ) (c : Cursor) (a b d e : ℕ) : Type 0 where
   pub rows : tagAt f (c .at) ≡ 5 → c .rows + lengthAt f (c .at) / 4 ≤ e
 
 -- room for any file's
-pub record Room (a b d e : ℕ) : Type 0 where
+pub record Suffice (a b d e : ℕ) : Type 0 where
   pub targets : 6144 ≤ a
   pub values : 4096 ≤ b
   pub starts : 12288 ≤ d
@@ -74,5 +74,5 @@ indexedIn keep f o t buf to = pick keep (pick (eqb (tagAt f o) t) (put buf to (i
 abbrev pub keptIf : {A : Type 0} → Bool → List A → List A → List A
 keptIf keep buf xs = pick keep (put buf 0 xs) buf
 
-abbrev pub endedAt : List ℕ → ℕ → Bool
-endedAt f o = ltb 0 o and eqb o (length f)
+abbrev pub readWholeAt : List ℕ → ℕ → Bool
+readWholeAt f o = ltb 0 o and eqb o (length f)

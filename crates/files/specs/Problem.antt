@@ -19,15 +19,15 @@ use Rattle.files.specs.Bytes.{byte, u16, u32, f64, doubles, indices}
 abbrev pub isCsc : List ℕ → Bool
 isCsc f = eqb (byte f 11) 1
 
-unfoldable pub shapeOf : List ℕ → Shape
-shapeOf f = record { layout = pick (isCsc f) Csc Dense; n = u32 f 3; p = u32 f 7 }
+unfoldable pub headerShape : List ℕ → Shape
+headerShape f = record { layout = pick (isCsc f) Csc Dense; n = u32 f 3; p = u32 f 7 }
 
-unfoldable pub penaltyOf : List ℕ → Penalty
-penaltyOf f = pick (eqb (byte f 12) 0) (L1 (f64 f 35)) (pick (eqb (byte f 12) 1) (L1PlusL2 (f64 f 35) (f64 f 43)) (MCP (f64 f 35) (f64 f 43)))
+unfoldable pub headerPenalty : List ℕ → Penalty
+headerPenalty f = pick (eqb (byte f 12) 0) (L1 (f64 f 35)) (pick (eqb (byte f 12) 1) (L1PlusL2 (f64 f 35) (f64 f 43)) (MCP (f64 f 35) (f64 f 43)))
 
-unfoldable pub settingsOf : List ℕ → Settings
-settingsOf f = record {
-  penalty = penaltyOf f;
+unfoldable pub headerSettings : List ℕ → Settings
+headerSettings f = record {
+  penalty = headerPenalty f;
   tolerance = f64 f 27;
   start = u32 f 15;
   iterations = u32 f 19;
@@ -51,8 +51,8 @@ pub record Read : Type 0 where
   pub starts : List ℕ
   pub rows : List ℕ
 
-abbrev pub nothing : Read
-nothing = record { at = 0; tag = 0; targets = []; values = []; starts = []; rows = [] }
+abbrev pub nothingRead : Read
+nothingRead = record { at = 0; tag = 0; targets = []; values = []; starts = []; rows = [] }
 
 -- the tag and the length of the field at place o
 abbrev pub tagAt : List ℕ → ℕ → ℕ
@@ -66,12 +66,12 @@ unfoldable pub whole : List ℕ → ℕ → Bool
 whole f o = leb (o + 3) (length f) and leb (o + 3 + lengthAt f o) (length f)
 
 -- "Other .. tags .. and tags 4 or 5 in a dense file are refused"; a second tag 1 too
-unfoldable pub known : List ℕ → ℕ → Bool
-known f t = leb 2 t and leb t (pick (isCsc f) 5 3)
+unfoldable pub knownTag : List ℕ → ℕ → Bool
+knownTag f t = leb 2 t and leb t (pick (isCsc f) 5 3)
 
 -- "bodies are whole numbers of elements"
-abbrev pub sizeOf : ℕ → ℕ
-sizeOf t = pick (leb t 3) 8 4
+abbrev pub elementSize : ℕ → ℕ
+elementSize t = pick (leb t 3) 8 4
 
 -- "stored ≤ 4,096 (the field that passes it)", of which `before` were read before
 abbrev pub stored : ℕ → ℕ → ℕ → Bool
@@ -80,7 +80,7 @@ stored t before many = pick (eqb t 3) (leb (before + many) 4096) true
 -- "Tags never fall": the field at place o, behind one with tag `last`
 unfoldable pub goodField : List ℕ → ℕ → ℕ → ℕ → Bool
 goodField f o last before =
-    known f (tagAt f o) and leb last (tagAt f o) and eqb (lengthAt f o % sizeOf (tagAt f o)) 0 and stored (tagAt f o) before (lengthAt f o / 8)
+    knownTag f (tagAt f o) and leb last (tagAt f o) and eqb (lengthAt f o % elementSize (tagAt f o)) 0 and stored (tagAt f o) before (lengthAt f o / 8)
 
 unfoldable pub goodAt : List ℕ → ℕ → ℕ → ℕ → Bool
 goodAt f o last before = whole f o and pick (eqb o 0) (goodHeader f) (goodField f o last before)
@@ -92,8 +92,8 @@ good f s = goodAt f (s .at) (s .tag) (length (s .values))
 abbrev pub joined : {A : Type 0} → ℕ → ℕ → List A → List A → List A
 joined t u old new = pick (eqb t u) (old ++ new) old
 
-unfoldable pub next : List ℕ → Read → Read
-next f s =
+unfoldable pub nextRead : List ℕ → Read → Read
+nextRead f s =
     let t = tagAt f (s .at) in
     let m = lengthAt f (s .at) in
     let body = s .at + 3 in
@@ -109,7 +109,7 @@ next f s =
 -- field after field, while the next one is good; a field has 3 bytes at least, so `length f` of them are enough
 unfoldable pub readOn : List ℕ → ℕ → Read → Read
 readOn f zero s = s
-readOn f (suc k) s = pick (good f s) (readOn f k (next f s)) s
+readOn f (suc k) s = pick (good f s) (readOn f k (nextRead f s)) s
 
 unfoldable pub readAll : List ℕ → Read
-readAll f = readOn f (length f) nothing
+readAll f = readOn f (length f) nothingRead

@@ -7,6 +7,7 @@ use lib.Dec.{T}
 use lib.ListN.{length, getD}
 use lib.Ieee.{Float, binary64, fits, toBits}
 use Rattle.doubles.specs.Num.{at, #0}
+use Rattle.leaves.specs.Penalty.{alphaOf}
 use Rattle.leaves.specs.declared.penalties.separable.Penalty.{Penalty}
 use Rattle.leaves.specs.declared.penalties.separable.Penalty.the-variants.{L1, L1PlusL2, MCP}
 use Rattle.designs.specs.declared.Layout.{Layout}
@@ -51,11 +52,6 @@ abbrev pub extrapolateCode : Bool → ℕ
 extrapolateCode false = 0
 extrapolateCode true = 1
 
-abbrev pub alphaOf : Penalty → Float
-alphaOf (L1 alpha) = alpha
-alphaOf (L1PlusL2 alpha ratio) = alpha
-alphaOf (MCP alpha gamma) = alpha
-
 -- "second number (f64; ignored for L1)"
 abbrev pub secondOf : Penalty → Float
 secondOf (L1 alpha) = #0
@@ -77,21 +73,22 @@ sparse Csc starts rows = field 4 (flatMap bytes32 starts) ++ field 5 (flatMap by
 -- "Tag 1 comes first"; "Tag 2 targets, 3 values, 4 starts, 5 row indices". A file has at most 49,152 bytes, so one field of each is enough
 unfoldable pub written : Problem → List ℕ
 written P =
-    field 1 (header (P .shape) (P .settings))
-    ++ (field 2 (flatMap bytesOf (P .targets)) ++ (field 3 (flatMap bytesOf (P .values)) ++ sparse (P .shape .layout) (P .starts) (P .rows)))
+    let g = P .given in
+    field 1 (header (g .shape) (P .settings))
+    ++ (field 2 (flatMap bytesOf (g .targets)) ++ (field 3 (flatMap bytesOf (g .values)) ++ sparse (g .shape .layout) (g .starts) (g .rows)))
 
 -- ---- which problems a file can hold: "n ≤ 256, p ≤ 32, stored ≤ 4,096", and each number within its bytes
 abbrev pub Double : Float → Type 0
 Double x = T (fits binary64 x)
 
-abbrev pub Doubles : List Float → Type 0
-Doubles xs = (i : ℕ) → i < length xs → Double (at xs i)
+abbrev pub AllDoubles : List Float → Type 0
+AllDoubles xs = (i : ℕ) → i < length xs → Double (at xs i)
 
 abbrev pub Word : ℕ → Type 0
 Word n = n < 4294967296
 
-abbrev pub Words : List ℕ → Type 0
-Words ns = (i : ℕ) → i < length ns → Word (getD ns i 0)
+abbrev pub AllWords : List ℕ → Type 0
+AllWords ns = (i : ℕ) → i < length ns → Word (getD ns i 0)
 
 -- a penalty's own numbers
 abbrev pub OwnDoubles : Penalty → Type 0
@@ -100,17 +97,17 @@ OwnDoubles (L1PlusL2 alpha ratio) = Double alpha × Double ratio
 OwnDoubles (MCP alpha gamma) = Double alpha × Double gamma
 
 pub record Fitting (P : Problem) : Type 0 where
-  pub samples : P .shape .n ≤ 256
-  pub features : P .shape .p ≤ 32
-  pub stored : length (P .values) ≤ 4096
+  pub samples : P .given .shape .n ≤ 256
+  pub features : P .given .shape .p ≤ 32
+  pub stored : length (P .given .values) ≤ 4096
   pub depth : P .settings .depth < 256
   pub start : Word (P .settings .start)
   pub iterations : Word (P .settings .iterations)
   pub epochs : Word (P .settings .epochs)
   pub tolerance : Double (P .settings .tolerance)
   pub penalty : OwnDoubles (P .settings .penalty)
-  pub targets : Doubles (P .targets)
-  pub values : Doubles (P .values)
-  pub starts : Words (P .starts)
-  pub rows : Words (P .rows)
-  pub dense : P .shape .layout ≡ Dense → (P .starts ≡ []) × (P .rows ≡ [])
+  pub targets : AllDoubles (P .given .targets)
+  pub values : AllDoubles (P .given .values)
+  pub starts : AllWords (P .given .starts)
+  pub rows : AllWords (P .given .rows)
+  pub dense : P .given .shape .layout ≡ Dense → (P .given .starts ≡ []) × (P .given .rows ≡ [])

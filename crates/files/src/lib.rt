@@ -75,7 +75,7 @@ fn is_header(file: &[u8]) -> bool
 
 fn shape_of(file: &[u8]) -> Shape
     requires { ⌜ (51 ≤ length (now file)) × (length (now file) ≤ 49152) ⌝ }
-    ensures { λ r. ⌜ r ≡ def.shapeOf (now (file .entry)) ⌝ }
+    ensures { λ r. ⌜ r ≡ def.headerShape (now (file .entry)) ⌝ }
 {
     let layout = if file[11] == 1 {
         Layout::Csc
@@ -91,7 +91,7 @@ fn shape_of(file: &[u8]) -> Shape
 
 fn penalty_of(file: &[u8]) -> Penalty
     requires { ⌜ (51 ≤ length (now file)) × (length (now file) ≤ 49152) ⌝ }
-    ensures { λ r. ⌜ r ≡ def.penaltyOf (now (file .entry)) ⌝ }
+    ensures { λ r. ⌜ r ≡ def.headerPenalty (now (file .entry)) ⌝ }
 {
     let alpha = f64_at(file, 35);
     let second = f64_at(file, 43);
@@ -112,7 +112,7 @@ fn penalty_of(file: &[u8]) -> Penalty
 
 fn settings_of(file: &[u8]) -> Settings
     requires { ⌜ (51 ≤ length (now file)) × (length (now file) ≤ 49152) ⌝ }
-    ensures { λ r. ⌜ r ≡ def.settingsOf (now (file .entry)) ⌝ }
+    ensures { λ r. ⌜ r ≡ def.headerSettings (now (file .entry)) ⌝ }
 {
     let penalty = penalty_of(file);
     Settings {
@@ -142,7 +142,7 @@ fn is_whole(file: &[u8], at: usize) -> bool
 // Tags 2 and 3, and for a sparse design 4 and 5.
 fn is_known(file: &[u8], tag: usize) -> bool
     requires { ⌜ 12 ≤ length (now file) ⌝ }
-    ensures { λ r. ⌜ r ≡ def.known (now (file .entry)) tag ⌝ }
+    ensures { λ r. ⌜ r ≡ def.knownTag (now (file .entry)) tag ⌝ }
 {
     if tag < 2 {
         return false;
@@ -155,7 +155,7 @@ fn is_known(file: &[u8], tag: usize) -> bool
 
 // Doubles have 8 bytes, indices 4.
 fn size_of(tag: usize) -> usize
-    ensures { λ r. ⌜ r ≡ def.sizeOf tag ⌝ }
+    ensures { λ r. ⌜ r ≡ def.elementSize tag ⌝ }
 {
     if tag <= 3 { 8 } else { 4 }
 }
@@ -284,8 +284,8 @@ fn read_fields(
     rows: &mut [u32],
 ) -> Cursor
     requires { ⌜ (length (now file) ≤ 49152)
-        × (keep ≡ true → here.Room (length (now targets)) (length (now values)) (length (now starts)) (length (now rows))) ⌝ }
-    ensures { λ r. ⌜ here.Counts (now (file .entry)) r (def.readAll (now (file .entry)))
+        × (keep ≡ true → here.Suffice (length (now targets)) (length (now values)) (length (now starts)) (length (now rows))) ⌝ }
+    ensures { λ r. ⌜ here.Counted (now (file .entry)) r (def.readAll (now (file .entry)))
         × (now (targets .exit) ≡ here.keptIf keep (now (targets .entry)) (def.readAll (now (file .entry)) .targets))
         × (now (values .exit) ≡ here.keptIf keep (now (values .entry)) (def.readAll (now (file .entry)) .values))
         × (now (starts .exit) ≡ here.keptIf keep (now (starts .entry)) (def.readAll (now (file .entry)) .starts))
@@ -320,7 +320,7 @@ fn refused(number: u32, place: usize) -> Parsed
 }
 
 fn has_room(targets: &[f64], values: &[f64], starts: &[u32], rows: &[u32]) -> bool
-    ensures { λ r. ⌜ r ≡ call.roomy (call.places (now (targets .entry)) (now (values .entry)) (now (starts .entry)) (now (rows .entry))) ⌝ }
+    ensures { λ r. ⌜ r ≡ call.placesSuffice (call.places (now (targets .entry)) (now (values .entry)) (now (starts .entry)) (now (rows .entry))) ⌝ }
 {
     if targets.len() < 6144 {
         return false;
@@ -335,7 +335,7 @@ fn has_room(targets: &[f64], values: &[f64], starts: &[u32], rows: &[u32]) -> bo
 }
 
 fn has_ended(file: &[u8], at: usize) -> bool
-    ensures { λ r. ⌜ r ≡ here.endedAt (now (file .entry)) at ⌝ }
+    ensures { λ r. ⌜ r ≡ here.readWholeAt (now (file .entry)) at ⌝ }
 {
     if at == 0 {
         return false;

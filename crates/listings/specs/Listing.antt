@@ -18,18 +18,18 @@ codes empty = []
 codes (c followed s) = code c ∷ codes s
 
 -- one text behind another
-infixr 40 _then_
-unfoldable pub _then_ : List ℕ → List ℕ → List ℕ
-xs then ys = xs ++ ys
+infixr 40 _and-then_
+unfoldable pub _and-then_ : List ℕ → List ℕ → List ℕ
+xs and-then ys = xs ++ ys
 
 -- ---- numbers
 -- how many decimal digits n has: 1, and one more for each of 10, 100, .. 10^19 that it reaches. What is printed is below 2^64
-unfoldable pub places : ℕ → ℕ
-places n = steps (λ k d. pick (leb (10 ^ (k + 1)) n) (d + 1) d) 19 1
+unfoldable pub digitCount : ℕ → ℕ
+digitCount n = steps (λ k d. pick (leb (10 ^ (k + 1)) n) (d + 1) d) 19 1
 
 -- "iterations 1": in decimal, with no zero in front, and 0 is "0"
 unfoldable pub decimal : ℕ → List ℕ
-decimal n = digits 10 (places n) n
+decimal n = digits 10 (digitCount n) n
 
 -- "3ff0000000000000": 16 lower-case hex digits
 unfoldable pub hex16 : ℕ → List ℕ
@@ -44,40 +44,40 @@ unfoldable pub newline : List ℕ
 newline = codes "\n"
 
 unfoldable pub labelled : List ℕ → ℕ → List ℕ
-labelled name n = name then decimal n
+labelled name n = name and-then decimal n
 
 -- as "epochs 11"
 unfoldable pub countLine : List ℕ → ℕ → List ℕ
-countLine name n = labelled name n then newline
+countLine name n = labelled name n and-then newline
 
 -- as "violation 0000000000000000"
 unfoldable pub bitsLine : List ℕ → Float → List ℕ
-bitsLine name x = name then hex16 (bitsOf x) then newline
+bitsLine name x = name and-then hex16 (bitsOf x) and-then newline
 
 -- as "w 0 3ff0000000000000"
 unfoldable pub entryLine : List ℕ → ℕ → Float → List ℕ
-entryLine name i x = labelled name i then bitsLine (codes " ") x
+entryLine name i x = labelled name i and-then bitsLine (codes " ") x
 
 -- the lines of the first n entries
 unfoldable pub entryLines : List ℕ → List Float → ℕ → List ℕ
-entryLines name xs n = steps (λ i l. l then entryLine name i (at xs i)) n []
+entryLines name xs n = steps (λ i l. l and-then entryLine name i (at xs i)) n []
 
 -- "status 1", "violation 0000000000000000", "iterations 1", "epochs 11", "extrapolations 0"
 unfoldable pub reportLines : Report → List ℕ
 reportLines r =
     countLine (codes "status ") (r .status)
-    then bitsLine (codes "violation ") (r .violation)
-    then countLine (codes "iterations ") (r .iterations)
-    then countLine (codes "epochs ") (r .epochs)
-    then countLine (codes "extrapolations ") (r .extrapolations)
+    and-then bitsLine (codes "violation ") (r .violation)
+    and-then countLine (codes "iterations ") (r .iterations)
+    and-then countLine (codes "epochs ") (r .epochs)
+    and-then countLine (codes "extrapolations ") (r .extrapolations)
 
 -- then a line a weight, and a line a fit entry
 unfoldable pub listing : Report → List Float → List Float → List ℕ
-listing r w fit = reportLines r then entryLines (codes "w ") w (length w) then entryLines (codes "fit ") fit (length fit)
+listing r w fit = reportLines r and-then entryLines (codes "w ") w (length w) and-then entryLines (codes "fit ") fit (length fit)
 
 -- "A refusal prints one line, as `refused 6 at 1`."
 unfoldable pub refusedLine : ℕ → ℕ → List ℕ
-refusedLine number place = labelled (codes "refused ") number then countLine (codes " at ") place
+refusedLine number place = labelled (codes "refused ") number and-then countLine (codes " at ") place
 
 abbrev pub listed : Outcome Report → List Float → List Float → List ℕ
 listed (refused number place) w fit = refusedLine number place

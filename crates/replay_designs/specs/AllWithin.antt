@@ -1,8 +1,8 @@
 -- The arrays of a record lie within its words.
 use Rattle.vectors.specs.Within.{Within}
-use Rattle.replay_designs.specs.declared.parts.Parts.{Parts}
+use Rattle.replay_designs.specs.declared.arrays.Arrays.{Arrays}
 
-pub record AllWithin (a : Parts) : Type 0 where
+pub record AllWithin (a : Arrays) : Type 0 where
   pub starts : Within (a .starts)
   pub rows : Within (a .rows)
   pub values : Within (a .values)

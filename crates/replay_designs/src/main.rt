@@ -1,5 +1,5 @@
 // Replays a list of the oracle's answers through the designs and the datafit. The list's name is the first argument.
-mod parts;
+mod arrays;
 mod record;
 
 use vectors::list;
@@ -11,8 +11,8 @@ fn main() {
     let mut words = [0u64; 1024];
     let mut p = list::open(&path[..length], &mut bytes, &mut words);
     while p.left > 0 {
-        let verdict = record::replay(&words, p.found);
-        let next = list::next(p, verdict, &path[..length], &mut bytes, &mut words);
+        let compared = record::replay(&words, p.found);
+        let next = list::next(p, compared, &path[..length], &mut bytes, &mut words);
         p = next;
     }
     list::end(p);

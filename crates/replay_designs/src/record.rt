@@ -2,13 +2,14 @@
 ghost use Prim.Native.Nat.{_+_, _≤_};
 ghost use Rattle.replay_designs.specs.AllWithin.{AllWithin};
 ghost use Rattle.vectors.specs.Within.{Within};
-use crate::parts::Parts;
-use crate::parts::parts_of;
+use crate::arrays::Arrays;
+use crate::arrays::arrays_of;
 use designs::Feature;
 use designs::Layout;
 use designs::Shape;
 use doubles::Number;
 use doubles::Refusal;
+use doubles::Verdict;
 use doubles::double;
 use vectors::Words;
 use vectors::outcomes::same_number;
@@ -19,7 +20,7 @@ use vectors::parts::doubles_of;
 use vectors::parts::indices_of;
 use vectors::parts::part_of;
 use vectors::parts::same_doubles;
-use vectors::progress::Verdict;
+use vectors::progress::Compared;
 use vectors::progress::judge;
 
 // A call beside its slices. Where the code has no feature or no difference, these are any words.
@@ -39,7 +40,7 @@ struct Answers {
 }
 
 // What the port answers, and the lent buffer as it leaves it.
-struct Outcome {
+struct PortAnswer {
     answer: Number,
     lent: Doubles,
 }
@@ -65,24 +66,24 @@ fn doubles_answered(code: u64) -> usize
     }
 }
 
-pub fn replay(words: &Words, n: usize) -> Verdict
+pub fn replay(words: &Words, n: usize) -> Compared
     requires { ⌜ n ≤ 1024 ⌝ }
 {
     let code = words[0];
     if code < 0x10 || 0x17 < code {
-        return Verdict::Bad;
+        return Compared::Bad;
     }
     if code != 0x13 && 1 < words[1] {
-        return Verdict::Bad;
+        return Compared::Bad;
     }
-    let arrays = parts_of(words, code);
+    let arrays = arrays_of(words, code);
     if !indices_fit(words, code, arrays) {
-        return Verdict::Bad;
+        return Compared::Bad;
     }
     let lent = arrays.lent;
     let at = lent.next + scalars(code);
     if n != at + 2 + doubles_answered(code) + lent.count {
-        return Verdict::Bad;
+        return Compared::Bad;
     }
     let answers = answers_of(words, n, code, at, lent.count);
     let call = call_of(words, code, lent.next);
@@ -90,7 +91,7 @@ pub fn replay(words: &Words, n: usize) -> Verdict
 }
 
 // Starts, rows and the features of code 15 are numbers of 32 bits.
-fn indices_fit(words: &Words, code: u64, arrays: Parts) -> bool
+fn indices_fit(words: &Words, code: u64, arrays: Arrays) -> bool
     requires { ⌜ AllWithin arrays ⌝ }
 {
     let starts = arrays.starts;
@@ -155,10 +156,10 @@ fn answers_of(words: &Words, n: usize, code: u64, at: usize, count: usize) -> An
 }
 
 // Whether the port answers as the record does, and leaves every place of the lent buffer as the record has it.
-fn agrees(words: &Words, call: Call, arrays: Parts, answers: Answers) -> bool
+fn agrees(words: &Words, call: Call, arrays: Arrays, answers: Answers) -> bool
     requires { ⌜ AllWithin arrays × Within (answers .lent) ⌝ }
 {
-    let out = outcome_of(words, call, arrays);
+    let out = port_answer(words, call, arrays);
     let answer = out.answer;
     let lent = out.lent;
     if same_number(answer, answers.number, answers.place, answers.r) {
@@ -169,7 +170,7 @@ fn agrees(words: &Words, call: Call, arrays: Parts, answers: Answers) -> bool
 }
 
 // Asks the port, with the record's arrays lent.
-fn outcome_of(words: &Words, call: Call, arrays: Parts) -> Outcome
+fn port_answer(words: &Words, call: Call, arrays: Arrays) -> PortAnswer
     requires { ⌜ AllWithin arrays ⌝ }
 {
     let starts_count = arrays.starts.count;
@@ -195,7 +196,7 @@ fn outcome_of(words: &Words, call: Call, arrays: Parts) -> Outcome
         &second[..second_count],
         &mut lent[..lent_count],
     );
-    Outcome {
+    PortAnswer {
         answer: answer,
         lent: lent,
     }
@@ -236,10 +237,10 @@ fn ask(
 }
 
 // A verdict as a call's answer: fine is +0.
-fn number(verdict: designs::Verdict) -> Number {
+fn number(verdict: Verdict) -> Number {
     match verdict {
-        designs::Verdict::Refused(f) => Number::Refused(f),
-        designs::Verdict::Fine => Number::Is(0.0),
+        Verdict::Refused(f) => Number::Refused(f),
+        Verdict::Fine => Number::Is(0.0),
     }
 }
 

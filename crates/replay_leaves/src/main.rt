@@ -10,8 +10,8 @@ fn main() {
     let mut words = [0u64; 1024];
     let mut p = list::open(&path[..length], &mut bytes, &mut words);
     while p.left > 0 {
-        let verdict = record::replay(&words, p.found);
-        let next = list::next(p, verdict, &path[..length], &mut bytes, &mut words);
+        let compared = record::replay(&words, p.found);
+        let next = list::next(p, compared, &path[..length], &mut bytes, &mut words);
         p = next;
     }
     list::end(p);

@@ -13,11 +13,11 @@ use vectors::Words;
 use vectors::outcomes::same_number;
 use vectors::outcomes::same_refusal;
 use vectors::parts::penalty_at;
-use vectors::progress::Verdict;
+use vectors::progress::Compared;
 use vectors::progress::judge;
 use vectors::same;
 
-pub fn replay(words: &Words, n: usize) -> Verdict {
+pub fn replay(words: &Words, n: usize) -> Compared {
     let code = words[0];
     match code {
         1 => soft(words, n),
@@ -27,37 +27,37 @@ pub fn replay(words: &Words, n: usize) -> Verdict {
         5 => solve(words, n),
         6 => inner_violation(words, n),
         7 => inner_value(words, n),
-        _ => Verdict::Bad,
+        _ => Compared::Bad,
     }
 }
 
-fn soft(words: &Words, n: usize) -> Verdict {
+fn soft(words: &Words, n: usize) -> Compared {
     if n != 4 {
-        return Verdict::Bad;
+        return Compared::Bad;
     }
     let r = soft_thresholding(double(words[1]), double(words[2]));
     judge(same(r, double(words[3])))
 }
 
-fn prox(words: &Words, n: usize) -> Verdict {
+fn prox(words: &Words, n: usize) -> Compared {
     if n != 7 || 2 < words[1] {
-        return Verdict::Bad;
+        return Compared::Bad;
     }
     let r = separable::prox(penalty_at(words, 1), double(words[4]), double(words[5]));
     judge(same(r, double(words[6])))
 }
 
-fn distance(words: &Words, n: usize) -> Verdict {
+fn distance(words: &Words, n: usize) -> Compared {
     if n != 9 || 2 < words[1] {
-        return Verdict::Bad;
+        return Compared::Bad;
     }
     let r = separable::subdiff_distance(penalty_at(words, 1), double(words[4]), double(words[5]));
     judge(same_number(r, words[6], words[7], words[8]))
 }
 
-fn inner_violation(words: &Words, n: usize) -> Verdict {
+fn inner_violation(words: &Words, n: usize) -> Compared {
     if n != 7 || 2 < words[1] {
-        return Verdict::Bad;
+        return Compared::Bad;
     }
     let r = inner::violation(penalty_at(words, 1), double(words[4]), double(words[5]));
     judge(same(r, double(words[6])))
@@ -79,26 +79,26 @@ fn weights(words: &Words, count: usize) -> [f64; 64]
     w
 }
 
-fn value(words: &Words, n: usize) -> Verdict {
+fn value(words: &Words, n: usize) -> Compared {
     if 64 < words[4] || 2 < words[1] {
-        return Verdict::Bad;
+        return Compared::Bad;
     }
     let count = words[4] as usize;
     if n != count + 8 {
-        return Verdict::Bad;
+        return Compared::Bad;
     }
     let w = weights(words, count);
     let r = separable::value(penalty_at(words, 1), &w[..count]);
     judge(same_number(r, words[count + 5], words[count + 6], words[count + 7]))
 }
 
-fn inner_value(words: &Words, n: usize) -> Verdict {
+fn inner_value(words: &Words, n: usize) -> Compared {
     if 64 < words[4] || 2 < words[1] {
-        return Verdict::Bad;
+        return Compared::Bad;
     }
     let count = words[4] as usize;
     if n != count + 6 {
-        return Verdict::Bad;
+        return Compared::Bad;
     }
     let w = weights(words, count);
     let r = inner::value(penalty_at(words, 1), &w[..count]);
@@ -182,12 +182,12 @@ fn answers_at(rows: usize) -> usize
 }
 
 // The size is passed on as it is, also where it is refused.
-fn solve(words: &Words, n: usize) -> Verdict {
+fn solve(words: &Words, n: usize) -> Compared {
     let size = words[1] as usize;
     let rows = rows_of(size);
     let at = answers_at(rows);
     if n != at + 13 {
-        return Verdict::Bad;
+        return Compared::Bad;
     }
     let s = helpers::solve_lin_sys(system(words, rows), size);
     judge(same_solution(s, words, at))

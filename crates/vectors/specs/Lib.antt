@@ -1,4 +1,4 @@
 -- What the contracts of the reader and of the record's parts cite.
 pub mod Count
-pub mod Kept
+pub mod ProgressWithin
 pub mod Within

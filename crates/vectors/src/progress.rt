@@ -1,29 +1,29 @@
 // How far a replay of a list has come, and what it prints. A program adds only how it replays a record.
 ghost use mathlib.Core.Path.{_≡_};
 ghost use Prim.Native.Nat.{_<_};
-ghost use Rattle.vectors.specs.Kept.{Kept};
+ghost use Rattle.vectors.specs.ProgressWithin.{ProgressWithin};
 use crate::Reader;
 use crate::start;
 use libc::STDOUT_FILENO;
 
 // What became of a record.
-pub enum Verdict {
+pub enum Compared {
     Same,
     Differs,
     // No record: an unknown code or kind, or not the code's number of words.
     Bad,
 }
 
-pub fn judge(is_same: bool) -> Verdict {
+pub fn judge(is_same: bool) -> Compared {
     if is_same {
-        Verdict::Same
+        Compared::Same
     } else {
-        Verdict::Differs
+        Compared::Differs
     }
 }
 
 // The records so far, and those of them that differ or are bad.
-pub struct Counts {
+pub struct Tally {
     pub cases: u64,
     pub differ: u64,
 }
@@ -43,12 +43,12 @@ pub struct Progress {
     // The line begun and its number.
     pub reader: Reader,
     pub line: u64,
-    pub counts: Counts,
+    pub counts: Tally,
 }
 
 // Before the first byte.
 pub fn begin(fd: i32) -> Progress
-    ensures { λ r. ⌜ Kept r × (0 < r .left) ⌝ }
+    ensures { λ r. ⌜ ProgressWithin r × (0 < r .left) ⌝ }
 {
     Progress {
         fd: fd,
@@ -58,7 +58,7 @@ pub fn begin(fd: i32) -> Progress
         found: 0,
         reader: start(),
         line: 1,
-        counts: Counts {
+        counts: Tally {
             cases: 0,
             differ: 0,
         },
@@ -85,11 +85,11 @@ fn name_wrong(p: Progress, what: &[u8]) {
 
 // One more record, of which `wrong` are wrong: 1 or 0.
 fn add_record(mut p: Progress, wrong: u64) -> Progress
-    requires { ⌜ Kept p ⌝ }
-    ensures { λ r. ⌜ Kept r × (r .left ≡ p .left) ⌝ }
+    requires { ⌜ ProgressWithin p ⌝ }
+    ensures { λ r. ⌜ ProgressWithin r × (r .left ≡ p .left) ⌝ }
 {
     let line = one_more(p.line);
-    let counts = Counts {
+    let counts = Tally {
         cases: one_more(p.counts.cases),
         differ: std::num::wrapping_add_u64(p.counts.differ, wrong),
     };
@@ -100,17 +100,17 @@ fn add_record(mut p: Progress, wrong: u64) -> Progress
 }
 
 // A line ended that was to be a record.
-pub fn count(p: Progress, verdict: Verdict) -> Progress
-    requires { ⌜ Kept p ⌝ }
-    ensures { λ r. ⌜ Kept r × (r .left ≡ p .left) ⌝ }
+pub fn count(p: Progress, compared: Compared) -> Progress
+    requires { ⌜ ProgressWithin p ⌝ }
+    ensures { λ r. ⌜ ProgressWithin r × (r .left ≡ p .left) ⌝ }
 {
-    match verdict {
-        Verdict::Same => add_record(p, 0),
-        Verdict::Differs => {
+    match compared {
+        Compared::Same => add_record(p, 0),
+        Compared::Differs => {
             name_wrong(p, b" differs\n");
             add_record(p, 1)
         }
-        Verdict::Bad => {
+        Compared::Bad => {
             name_wrong(p, b" bad\n");
             add_record(p, 1)
         }
@@ -118,7 +118,7 @@ pub fn count(p: Progress, verdict: Verdict) -> Progress
 }
 
 // The last line: how many records there were, and how many of them differ or are bad.
-fn print_counts(c: Counts) {
+fn print_counts(c: Tally) {
     io::print_decimal(STDOUT_FILENO, c.cases);
     io::write_all(STDOUT_FILENO, b" cases, ");
     io::print_decimal(STDOUT_FILENO, c.differ);
@@ -126,7 +126,7 @@ fn print_counts(c: Counts) {
 }
 
 // The list is over: it is closed and the counts are printed. Of a list that did not open there is nothing to say.
-pub fn end(fd: i32, counts: Counts) {
+pub fn end(fd: i32, counts: Tally) {
     if fd < 0 {
         return;
     }

@@ -12,35 +12,36 @@ use Rattle.doubles.specs.Num.{_and_}
 use Rattle.doubles.specs.Buffer.{put}
 use Rattle.doubles.proofs.Laws.Parts.{part-at}
 use Rattle.doubles.specs.Answer.{Outcome, refused, answered}
+use Rattle.designs.specs.Given.{given}
 use Rattle.runs.specs.Call.{Lent}
 use Rattle.runs.specs.declared.Report.{Report}
-use Rattle.files.specs.Call.{Problem, parsed, Places, places, roomy, given, readProblem, sizesOf, sized, readCall, filled, readLeft}
+use Rattle.files.specs.Call.{Problem, parsed, Places, places, placesSuffice, withRoom, readProblem, sizesOf, sizesAnswered, readCall, filledPlaces, readLeft}
 use Rattle.files.specs.declared.Sizes.{Sizes}
 use Rattle.listings.specs.Call.{writeCall, writeLeft}
 use Rattle.listings.proofs.Laws.Calls.{write-fits}
-use Rattle.answers.specs.Printed.{fitted, left, printedFor, printed, textCall, textLeft, answerCall, answerLeft}
-use Rattle.answers.specs.Given.{Inside, problemIn}
+use Rattle.answers.specs.Printed.{problemFit, problemLeft, printedFor, printed, textCall, textLeft, answerCall, answerLeft}
+use Rattle.answers.specs.InPlaces.{ProblemInside, problemIn}
 
 take-few : (p m : ℕ) (l : List Float) → p ≤ length l → p ≤ m → length (take p l) ≤ m
 take-few p m l h k = le-trans (le-of-eq (length-take-le p l h)) k
 
 -- ---- the listing of a fit
-pub fit-listed : (P : Problem) (o : Outcome Report) (b : Lent) (out out' : List ℕ) (r : Outcome ℕ) → o ≡ fitted P → b ≡ left P
-    → P .shape .p ≤ length (b .weights) → P .shape .p ≤ 32 → P .shape .n ≤ length (b .fit) → P .shape .n ≤ 256
-    → r ≡ writeCall o (take (P .shape .p) (b .weights)) (take (P .shape .n) (b .fit)) out
-    → out' ≡ writeLeft o (take (P .shape .p) (b .weights)) (take (P .shape .n) (b .fit)) out
+pub fit-listed : (P : Problem) (o : Outcome Report) (b : Lent) (out out' : List ℕ) (r : Outcome ℕ) → o ≡ problemFit P → b ≡ problemLeft P
+    → P .given .shape .p ≤ length (b .weights) → P .given .shape .p ≤ 32 → P .given .shape .n ≤ length (b .fit) → P .given .shape .n ≤ 256
+    → r ≡ writeCall o (take (P .given .shape .p) (b .weights)) (take (P .given .shape .n) (b .fit)) out
+    → out' ≡ writeLeft o (take (P .given .shape .p) (b .weights)) (take (P .given .shape .n) (b .fit)) out
     → (r ≡ textCall (printedFor (answered P)) out) × (out' ≡ textLeft (printedFor (answered P)) out)
 fit-listed P o b out out' r eo eb hp kp hn kn er el =
-    let w = write-fits o (take (P .shape .p) (b .weights)) (take (P .shape .n) (b .fit)) out (take-few _ 32 _ hp kp) (take-few _ 256 _ hn kn) in
+    let w = write-fits o (take (P .given .shape .p) (b .weights)) (take (P .given .shape .n) (b .fit)) out (take-few _ 32 _ hp kp) (take-few _ 256 _ hn kn) in
     (er ∙ w .0 ∙ rw (eo, eb), el ∙ w .1 ∙ rw (eo, eb))
 
 -- ---- what the reader gave
-module _ (f : List ℕ) (b : Places) (room : roomy b ≡ true) where
+module _ (f : List ℕ) (b : Places) (room : placesSuffice b ≡ true) where
   pub read-refused : (number place : ℕ) → refused number place ≡ readCall f b → parsed f ≡ refused number place
   unfolding readCall readProblem
   read-refused number place e = go (parsed f) (rw room at e)
     where
-      go : (x : Outcome Problem) → refused number place ≡ sized (given true x) → x ≡ refused number place
+      go : (x : Outcome Problem) → refused number place ≡ sizesAnswered (withRoom true x) → x ≡ refused number place
       go (refused m q) e = cc
       go (answered P) e = cc
 
@@ -52,19 +53,17 @@ module _ (f : List ℕ) (b : Places) (room : roomy b ≡ true) where
       back : {A : Type 0} (l xs : List A) → xs ≡ take (length xs) (put l 0 xs)
       back l xs = sym (part-at l 0 (length xs) xs (omega arith) refl)
 
-      go : (x : Outcome Problem) → answered z ≡ sized (given true x) → b' ≡ filled (given true x) b
+      go : (x : Outcome Problem) → answered z ≡ sizesAnswered (withRoom true x) → b' ≡ filledPlaces (withRoom true x) b
           → x ≡ answered (problemIn z (b' .targets) (b' .values) (b' .starts) (b' .rows))
       go (refused m q) e l = cc
       go (answered P) e l =
           let q : z ≡ sizesOf P = cc in
-          rw (q, l) (λ i. answered (record {
-            shape = P .shape;
-            settings = P .settings;
-            targets = back (b .targets) (P .targets) i;
-            values = back (b .values) (P .values) i;
-            starts = back (b .starts) (P .starts) i;
-            rows = back (b .rows) (P .rows) i;
-          }))
+          let g = P .given in
+          let starts = back (b .starts) (g .starts) in
+          let rows = back (b .rows) (g .rows) in
+          let values = back (b .values) (g .values) in
+          let targets = back (b .targets) (g .targets) in
+          rw (q, l) (λ i. answered (record { given = given (g .shape) (starts i) (rows i) (values i) (targets i); settings = P .settings }))
 
 -- ---- what is printed
 pub refusal-printed : (f : List ℕ) (number place : ℕ) (w e : List Float) (out out' : List ℕ) (r : Outcome ℕ) → parsed f ≡ refused number place
@@ -81,14 +80,14 @@ unfolding answerCall answerLeft printed
 fit-printed f P out out' r ep er el = (er ∙ rw ep, el ∙ rw ep)
 
 -- ---- the program's own places are enough
-pub own-room : (x : Float) → roomy (places (replicate 6144 x) (replicate 4096 x) (replicate 12288 0) (replicate 12288 0)) ≡ true
-unfolding roomy _and_
+pub own-room : (x : Float) → placesSuffice (places (replicate 6144 x) (replicate 4096 x) (replicate 12288 0) (replicate 12288 0)) ≡ true
+unfolding placesSuffice _and_
 own-room x = refl
 
 pub own-places : (z : Sizes) (t v : List Float) (s r : List ℕ) (x : Float) → length t ≡ length (replicate 6144 x) → length v ≡ length (replicate 4096 x)
     → length s ≡ length (replicate {A = ℕ} 12288 0) → length r ≡ length (replicate {A = ℕ} 12288 0)
     → (z .targets ≤ 6144) × (z .values ≤ 4096) × (z .starts ≤ 12288) × (z .rows ≤ 12288) × (z .shape .n ≤ 256) × (z .shape .p ≤ 32)
-    → Inside z (length t) (length v) (length s) (length r)
+    → ProblemInside z (length t) (length v) (length s) (length r)
 own-places z t v s r x et ev es er i =
     let a = length-replicate 6144 x in
     let b = length-replicate 4096 x in

@@ -5,11 +5,10 @@ use native.Mathlib.Nat.{le-of-eq, le-trans}
 use lib.ListN.{length}
 use lib.Seq.{length-take-le}
 use denote.Ref.{now}
-use Rattle.runs.specs.Call.{fitOf}
+use Rattle.runs.specs.Call.{fitOf, lent}
 use Rattle.answers.proofs.Laws.Calls.{fit-listed}
-use Rattle.answers.specs.Printed.{fitted, left}
-use Rattle.answers.specs.Given.{problemIn}
-use Rattle.solvers.specs.Buffers.{lent}
+use Rattle.answers.specs.Printed.{problemFit, problemLeft}
+use Rattle.answers.specs.InPlaces.{problemIn}
 use borrow.Author.Needs.{needs}
 use Rattle.answers.proofs.fit_listing.Statement.{statement}
 use Rattle.answers.proofs.fit_listing.Tie as tie
@@ -80,7 +79,7 @@ same-length : tie.Need-same-length
 same-length c = search needs
 
 returns : tie.Need-returns
-unfolding fitted left
+unfolding problemFit problemLeft
 returns c =
     let told = c .before .before .write-listing .ensures in
     let behind = c .before .before .before .before .before .before .before .before .before .before in

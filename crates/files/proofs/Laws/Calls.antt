@@ -13,17 +13,17 @@ use Rattle.doubles.proofs.Laws.Choice.{and-both}
 use Rattle.doubles.specs.Answer.{Outcome, refused, answered}
 use Rattle.designs.specs.declared.Shape.{Shape}
 use Rattle.runs.specs.declared.Settings.{Settings}
-use Rattle.files.specs.Problem.{readAll, shapeOf, settingsOf, goodHeader}
-use Rattle.files.specs.Call.{problem, ended, parsed, Places, places, roomy, readProblem, sizesOf, readCall, readLeft}
-use Rattle.files.specs.Places.{Header, Counts, Room, endedAt}
+use Rattle.files.specs.Problem.{readAll, headerShape, headerSettings, goodHeader}
+use Rattle.files.specs.Call.{problem, readWhole, parsed, Places, places, placesSuffice, readProblem, sizesOf, readCall, readLeft}
+use Rattle.files.specs.Places.{Header, Counted, Suffice, readWholeAt}
 use Rattle.files.specs.declared.Cursor.{Cursor}
 use Rattle.files.specs.declared.Sizes.{Sizes}
 
 pub places-same : {t t' v v' : List Float} {s s' r r' : List ℕ} → t ≡ t' → v ≡ v' → s ≡ s' → r ≡ r' → places t v s r ≡ places t' v' s' r'
 places-same a b c d = λ i. places (a i) (b i) (c i) (d i)
 
-pub room-of : (t v : List Float) (s r : List ℕ) → roomy (places t v s r) ≡ true → Room (length t) (length v) (length s) (length r)
-unfolding roomy
+pub room-of : (t v : List Float) (s r : List ℕ) → placesSuffice (places t v s r) ≡ true → Suffice (length t) (length v) (length s) (length r)
+unfolding placesSuffice
 room-of t v s r e =
     let a = and-both _ _ e in
     let b = and-both _ _ (a .1) in
@@ -42,9 +42,9 @@ module _ (f : List ℕ) (b : Places) where
   unfolding readProblem parsed
   too-long h o e = left-refused 9 49152 (rw (lt-leb (length f) 49152 h)) o b e refl
 
-  module _ (l : length f ≤ 49152) (c : Cursor) (C : Counts f c (readAll f)) (u : Bool) (eu : u ≡ endedAt f (c .at)) where
-    here : u ≡ ended f (readAll f)
-    unfolding ended
+  module _ (l : length f ≤ 49152) (c : Cursor) (C : Counted f c (readAll f)) (u : Bool) (eu : u ≡ readWholeAt f (c .at)) where
+    here : u ≡ readWhole f (readAll f)
+    unfolding readWhole
     here = eu ∙ rw (C .at)
 
     pub not-ended : u ≡ false → (o : Outcome Sizes) (b' : Places) → o ≡ refused 9 (c .at) → b' ≡ b → Left o b'
@@ -62,11 +62,11 @@ module _ (f : List ℕ) (b : Places) where
       unfolding parsed
       whole-problem = rw (le-leb (length f) 49152 l, ← here, h)
 
-      pub no-room : roomy b ≡ false → (o : Outcome Sizes) (b' : Places) → o ≡ refused 3 0 → b' ≡ b → Left o b'
+      pub no-room : placesSuffice b ≡ false → (o : Outcome Sizes) (b' : Places) → o ≡ refused 3 0 → b' ≡ b → Left o b'
       unfolding readProblem
       no-room n o b' eo eb = left-refused 3 0 (rw (whole-problem, n)) o b' eo eb
 
-      module _ (m : roomy b ≡ true) where
+      module _ (m : placesSuffice b ≡ true) where
         fine : readProblem f b ≡ answered (problem f (readAll f))
         unfolding readProblem
         fine = rw (whole-problem, m)
@@ -79,15 +79,15 @@ module _ (f : List ℕ) (b : Places) where
         read-well o b' eo eb = rw fine (eo, eb)
 
 -- the sizes, as the second pass counted them
-module _ (f : List ℕ) (d : Cursor) (C : Counts f d (readAll f)) where
-  pub sizes-read : (a : Shape) (e : Settings) → a ≡ shapeOf f → e ≡ settingsOf f
+module _ (f : List ℕ) (d : Cursor) (C : Counted f d (readAll f)) where
+  pub sizes-read : (a : Shape) (e : Settings) → a ≡ headerShape f → e ≡ headerSettings f
       → answered (record { shape = a; settings = e; targets = d .targets; values = d .values; starts = d .starts; rows = d .rows })
       ≡ answered (sizesOf (problem f (readAll f)))
   sizes-read a e ea ee = rw (ea, ee, C .targets, C .values, C .starts, C .rows)
 
-  pub sizes-inside : length f ≤ 49152 → Header f → (a : Shape) → a ≡ shapeOf f
+  pub sizes-inside : length f ≤ 49152 → Header f → (a : Shape) → a ≡ headerShape f
       → (d .targets ≤ 6144) × (d .values ≤ 4096) × (d .starts ≤ 12288) × (d .rows ≤ 12288) × (a .n ≤ 256) × (a .p ≤ 32)
-  unfolding shapeOf goodHeader
+  unfolding headerShape goodHeader
   sizes-inside l H a e =
       let w = C .within in
       let t = C .few-targets in

@@ -13,7 +13,7 @@ use Rattle.doubles.proofs.Laws.Choice.{and-both}
 use Rattle.designs.specs.declared.Layout.{Layout}
 use Rattle.designs.specs.declared.Layout.the-variants.{Dense, Csc}
 use Rattle.files.specs.Bytes.{u16}
-use Rattle.files.specs.Problem.{lengthAt, whole, sizeOf}
+use Rattle.files.specs.Problem.{lengthAt, whole, elementSize}
 
 -- a field that is not cut ends within the file
 module _ (f : List ℕ) (o : ℕ) (h : whole f o ≡ true) where
@@ -31,7 +31,7 @@ module _ (f : List ℕ) (o : ℕ) (h : whole f o ≡ true) where
 pub header-long : (f : List ℕ) (m : ℕ) → whole f 0 ≡ true → m ≡ u16 f 1 → m ≡ 48 → 51 ≤ length f
 header-long f m h e q = let b : 0 + 3 + lengthAt f 0 ≤ length f = body-inside f 0 h in let z : u16 f 1 ≡ 48 = sym e ∙ q in omega arith
 
-pub size-positive : (t n : ℕ) → n ≡ sizeOf t → 0 < n
+pub size-positive : (t n : ℕ) → n ≡ elementSize t → 0 < n
 size-positive t n e = go (leb t 3) e
   where
     go : (b : Bool) → n ≡ pick b 8 4 → 0 < n

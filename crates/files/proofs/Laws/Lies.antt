@@ -13,7 +13,7 @@ use Rattle.doubles.specs.Steps.{tab}
 use Rattle.doubles.proofs.Laws.Steps.{tab-same}
 use Rattle.doubles.proofs.Laws.Parts.{tab-getD}
 use Rattle.files.specs.Bytes.{byte, u16, u32, u64, f64, doubles, indices}
-use Rattle.files.specs.Written.{bytes, bytes16, bytes32, bytes64, bytesOf, Double, Doubles, Word, Words}
+use Rattle.files.specs.Written.{bytes, bytes16, bytes32, bytes64, bytesOf, Double, AllDoubles, Word, AllWords}
 
 -- from place a on, the file is ys
 pub record Lies (f : List ℕ) (a : ℕ) (ys : List ℕ) : Type 0 where
@@ -113,8 +113,8 @@ doubles-long = all-long bytesOf 8 eight
 pub words-long : (ns : List ℕ) → length (flatMap bytes32 ns) ≡ 4 * length ns
 words-long = all-long bytes32 4 four
 
-pub doubles-back : (f : List ℕ) (a : ℕ) (xs : List Float) (rest : List ℕ) → Lies f a (flatMap bytesOf xs ++ rest) → Doubles xs → doubles f a (length xs) ≡ xs
+pub doubles-back : (f : List ℕ) (a : ℕ) (xs : List Float) (rest : List ℕ) → Lies f a (flatMap bytesOf xs ++ rest) → AllDoubles xs → doubles f a (length xs) ≡ xs
 doubles-back = all-back bytesOf 8 eight f64 Double nan (λ f ys a L. f64-there L) f64-back
 
-pub words-back : (f : List ℕ) (a : ℕ) (ns : List ℕ) (rest : List ℕ) → Lies f a (flatMap bytes32 ns ++ rest) → Words ns → indices f a (length ns) ≡ ns
+pub words-back : (f : List ℕ) (a : ℕ) (ns : List ℕ) (rest : List ℕ) → Lies f a (flatMap bytes32 ns ++ rest) → AllWords ns → indices f a (length ns) ≡ ns
 words-back = all-back bytes32 4 four u32 Word 0 (λ f ys a L. u32-there L) u32-back

@@ -15,8 +15,8 @@ use Rattle.doubles.proofs.Laws.Choice.{and-both}
 use Rattle.doubles.proofs.Laws.Steps.{length-tab}
 use Rattle.doubles.proofs.Laws.Buffer.{length-put, put-behind}
 use Rattle.files.specs.Bytes.{u32, f64, doubles, indices}
-use Rattle.files.specs.Problem.{Read, nothing, tagAt, lengthAt, whole, stored, goodHeader, goodField, goodAt, good, joined, next, readOn, readAll}
-use Rattle.files.specs.Places.{Header, Headed, Counts, grownBy, advanced, Space, Room, storedIn, indexedIn, keptIf}
+use Rattle.files.specs.Problem.{Read, nothingRead, tagAt, lengthAt, whole, stored, goodHeader, goodField, goodAt, good, joined, nextRead, readOn, readAll}
+use Rattle.files.specs.Places.{Header, Headed, Counted, grownBy, advanced, Space, Suffice, storedIn, indexedIn, keptIf}
 use Rattle.files.specs.declared.Cursor.{Cursor}
 use Rattle.files.proofs.Laws.Fields.{head-inside, body-inside, header-long}
 
@@ -69,8 +69,8 @@ module _ (f : List ℕ) where
   unfolding goodAt whole _and_
   at-end s h = rw (lt-leb (s .at + 3) (length f) (omega arith))
 
-  next-at : (s : Read) → s .at + 3 ≤ next f s .at
-  unfolding next
+  next-at : (s : Read) → s .at + 3 ≤ nextRead f s .at
+  unfolding nextRead
   next-at s = omega arith
 
   same-turns : (k j : ℕ) (s : Read) → length f ≤ s .at + k → length f ≤ s .at + j → readOn f k s ≡ readOn f j s
@@ -80,9 +80,9 @@ module _ (f : List ℕ) where
   same-turns (suc k) zero s h l = rw (at-end s (omega arith))
   same-turns (suc k) (suc j) s h l =
       let n = next-at s in
-      ap (λ (r : Read). pick (good f s) r s) (same-turns k j (next f s) (omega arith) (omega arith))
+      ap (λ (r : Read). pick (good f s) r s) (same-turns k j (nextRead f s) (omega arith) (omega arith))
 
-  pub one-more : (s : Read) → readOn f (length f) s ≡ pick (good f s) (readOn f (length f) (next f s)) s
+  pub one-more : (s : Read) → readOn f (length f) s ≡ pick (good f s) (readOn f (length f) (nextRead f s)) s
   unfolding readOn
   one-more s = same-turns (length f) (suc (length f)) s (omega arith) (omega arith)
 
@@ -99,7 +99,7 @@ fours : (b : Bool) (n m a : ℕ) → 4 * n ≤ a → 4 * grownBy n b (m / 4) ≤
 fours true n m a h = omega arith
 fours false n m a h = omega arith
 
-module _ (f : List ℕ) (c : Cursor) (s : Read) (C : Counts f c s) where
+module _ (f : List ℕ) (c : Cursor) (s : Read) (C : Counted f c s) where
   pub good-by : (b : Bool) → b ≡ goodAt f (c .at) (c .tag) (c .values) → b ≡ good f s
   good-by b e = e ∙ rw (C .at, C .tag, C .values)
 
@@ -107,8 +107,8 @@ module _ (f : List ℕ) (c : Cursor) (s : Read) (C : Counts f c s) where
     whole-here : whole f (c .at) ≡ true
     whole-here = rw (C .at) (good-whole f s g)
 
-    pub counts-next : Counts f (advanced f c) (next f s)
-    unfolding advanced next
+    pub counts-next : Counted f (advanced f c) (nextRead f s)
+    unfolding advanced nextRead
     counts-next =
         let t = tagAt f (s .at) in
         let m = lengthAt f (s .at) in
@@ -135,7 +135,7 @@ module _ (f : List ℕ) (c : Cursor) (s : Read) (C : Counts f c s) where
         long true q = let z : s .at ≡ 0 = sym (C .at) ∙ eqb-true (c .at) 0 q in record { long = first-long f s g z; good = good-first f s g z }
         long false q = C .headed (eqb-false (c .at) 0 q)
 
-    pub enough-space : (a b d e : ℕ) → length f ≤ 49152 → Room a b d e → Space f c a b d e
+    pub enough-space : (a b d e : ℕ) → length f ≤ 49152 → Suffice a b d e → Space f c a b d e
     enough-space a b d e l R =
         let i = body-inside f (c .at) whole-here in
         let t = C .few-targets in
@@ -175,7 +175,7 @@ kept-length false l xs m e h = ap length e
 pub record Walked (f : List ℕ) (keep : Bool) (t₀ v₀ : List Float) (s₀ r₀ : List ℕ) (t v : List Float) (s r : List ℕ) (c : Cursor) (more : Bool) : Type 0 where
   pub so-far : Read
   pub rest : readAll f ≡ readOn f (length f) so-far
-  pub counts : Counts f c so-far
+  pub counts : Counted f c so-far
   pub goes-on : more ≡ good f so-far
   pub targets : t ≡ keptIf keep t₀ (so-far .targets)
   pub values : v ≡ keptIf keep v₀ (so-far .values)
@@ -183,8 +183,8 @@ pub record Walked (f : List ℕ) (keep : Bool) (t₀ v₀ : List Float) (s₀ r�
   pub rows : r ≡ keptIf keep r₀ (so-far .rows)
 
 module _ (f : List ℕ) (keep : Bool) (t₀ v₀ : List Float) (s₀ r₀ : List ℕ) (l : length f ≤ 49152)
-    (room : keep ≡ true → Room (length t₀) (length v₀) (length s₀) (length r₀)) where
-  counts-none : Counts f (record { at = 0; tag = 0; targets = 0; values = 0; starts = 0; rows = 0 }) nothing
+    (room : keep ≡ true → Suffice (length t₀) (length v₀) (length s₀) (length r₀)) where
+  counts-none : Counted f (record { at = 0; tag = 0; targets = 0; values = 0; starts = 0; rows = 0 }) nothingRead
   counts-none = record {
     at = refl;
     tag = refl;
@@ -204,10 +204,10 @@ module _ (f : List ℕ) (keep : Bool) (t₀ v₀ : List Float) (s₀ r₀ : List
       → Walked f keep t₀ v₀ s₀ r₀ t₀ v₀ s₀ r₀ (record { at = 0; tag = 0; targets = 0; values = 0; starts = 0; rows = 0 }) b
   unfolding readAll
   walked-none b e = record {
-    so-far = nothing;
+    so-far = nothingRead;
     rest = refl;
     counts = counts-none;
-    goes-on = good-by f _ nothing counts-none b e;
+    goes-on = good-by f _ nothingRead counts-none b e;
     targets = put-nothing keep t₀;
     values = put-nothing keep v₀;
     starts = put-nothing keep s₀;
@@ -274,17 +274,17 @@ module _ (f : List ℕ) (keep : Bool) (t₀ v₀ : List Float) (s₀ r₀ : List
           → s' ≡ indexedIn keep f (c .at) 4 s (c .starts) → r' ≡ indexedIn keep f (c .at) 5 r (c .rows)
           → d ≡ advanced f c → b ≡ goodAt f (d .at) (d .tag) (d .values)
           → Walked f keep t₀ v₀ s₀ r₀ t' v' s' r' d b
-      unfolding next
+      unfolding nextRead
       walked-more t' v' s' r' d b et ev es er ed eb =
           let x = W .so-far in
           let C = W .counts in
           let m = lengthAt f (c .at) in
-          let n : Counts f d (next f x) = rw ed (counts-next f c x C here-good) in
+          let n : Counted f d (nextRead f x) = rw ed (counts-next f c x C here-good) in
           record {
-            so-far = next f x;
+            so-far = nextRead f x;
             rest = W .rest ∙ one-more f x ∙ rw here-good;
             counts = n;
-            goes-on = good-by f d (next f x) n b eb;
+            goes-on = good-by f d (nextRead f x) n b eb;
             targets =
                 et
                 ∙ gains 2 t₀ (x .targets) (doubles f (c .at + 3) (m / 8)) t (c .targets) (W .targets) (C .targets)
@@ -309,7 +309,7 @@ module _ (f : List ℕ) (keep : Bool) (t₀ v₀ : List Float) (s₀ r₀ : List
 
     -- the file is read
     pub walked-all : more ≡ false
-        → Counts f c (readAll f) × (t ≡ keptIf keep t₀ (readAll f .targets)) × (v ≡ keptIf keep v₀ (readAll f .values))
+        → Counted f c (readAll f) × (t ≡ keptIf keep t₀ (readAll f .targets)) × (v ≡ keptIf keep v₀ (readAll f .values))
         × (s ≡ keptIf keep s₀ (readAll f .starts)) × (r ≡ keptIf keep r₀ (readAll f .rows))
     walked-all h =
         let e : readAll f ≡ W .so-far = W .rest ∙ one-more f (W .so-far) ∙ rw (sym (W .goes-on) ∙ h) in

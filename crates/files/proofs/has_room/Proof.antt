@@ -1,24 +1,24 @@
 -- `has_room`: the tests in their turn. Assumes nothing.
 use borrow.Author.Tests.{le-leb, lt-leb}
 use Rattle.doubles.specs.Num.{_and_}
-use Rattle.files.specs.Call.{roomy}
+use Rattle.files.specs.Call.{placesSuffice}
 use Rattle.files.proofs.has_room.Statement.{statement}
 use Rattle.files.proofs.has_room.Tie as tie
 
 returns : tie.Need-returns
-unfolding roomy _and_
+unfolding placesSuffice _and_
 returns c = rw (lt-leb _ _ (c .if1 .taken))
 
 returns-2 : tie.Need-returns-2
-unfolding roomy _and_
+unfolding placesSuffice _and_
 returns-2 c = rw (le-leb _ _ (c .before .if1 .left), lt-leb _ _ (c .if2 .taken))
 
 returns-3 : tie.Need-returns-3
-unfolding roomy _and_
+unfolding placesSuffice _and_
 returns-3 c = rw (le-leb _ _ (c .before .before .if1 .left), le-leb _ _ (c .before .if2 .left), lt-leb _ _ (c .if3 .taken))
 
 returns-4 : tie.Need-returns-4
-unfolding roomy _and_
+unfolding placesSuffice _and_
 returns-4 c = rw (le-leb _ _ (c .before .before .if1 .left), le-leb _ _ (c .before .if2 .left), le-leb _ _ (c .if3 .left))
 
 pub has-room-spec : {M : Type 1} → statement M

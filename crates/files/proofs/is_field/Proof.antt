@@ -44,11 +44,13 @@ rem-if3 c =
 returns-3 : tie.Need-returns-3
 unfolding goodField _and_
 returns-3 c =
+    let second = c .before .before in
+    let first = second .before .before in
     rw (
-      ← c .before .before .before .before .before .is-known .ensures,
-      c .before .before .before .before .if1 .taken,
-      le-leb _ _ (c .before .before .if2 .left),
-      ← c .before .before .before .before .before .before .u16-at .ensures .0,
+      ← first .before .is-known .ensures,
+      first .if1 .taken,
+      le-leb _ _ (second .if2 .left),
+      ← first .before .before .u16-at .ensures .0,
       ← c .before .size-of .ensures,
       ne-eqb _ _ (c .if3 .taken),
     )
@@ -59,13 +61,16 @@ is-stored-requires c κs = search needs
 returns-4 : tie.Need-returns-4
 unfolding goodField _and_
 returns-4 c =
+    let third = c .before in
+    let second = third .before .before in
+    let first = second .before .before in
     rw (
-      ← c .before .before .before .before .before .before .is-known .ensures,
-      c .before .before .before .before .before .if1 .taken,
-      le-leb _ _ (c .before .before .before .if2 .left),
-      ← c .before .before .before .before .before .before .before .u16-at .ensures .0,
-      ← c .before .before .size-of .ensures,
-      eq-eqb _ _ (c .before .if3 .left),
+      ← first .before .is-known .ensures,
+      first .if1 .taken,
+      le-leb _ _ (second .if2 .left),
+      ← first .before .before .u16-at .ensures .0,
+      ← third .before .size-of .ensures,
+      eq-eqb _ _ (third .if3 .left),
     )
     (c .is-stored .ensures)
 

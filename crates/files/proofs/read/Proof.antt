@@ -7,7 +7,7 @@ use denote.Ref.{now}
 use Rattle.doubles.specs.Buffer.{put}
 use Rattle.files.specs.Problem.{readAll}
 use Rattle.files.proofs.Laws.Calls.{places-same, room-of, too-long, not-ended, some-read, no-room, read-well, sizes-read, sizes-inside}
-use Rattle.files.specs.Call.{Places, roomy, places}
+use Rattle.files.specs.Call.{Places, placesSuffice, places}
 use Rattle.files.specs.Places.{Header}
 use mathlib.Core.Bool.{false≢true}
 use borrow.Author.Needs.{needs}
@@ -18,8 +18,8 @@ use Rattle.files.proofs.read.Tie as tie
 abbrev entry : tie.Else1 → tie.Start
 entry c = c .before .before .before .before .before .before
 
-abbrev lent : tie.Start → Places
-lent c = places (now (c .args .targets)) (now (c .args .values)) (now (c .args .starts)) (now (c .args .rows))
+abbrev lent-places : tie.Start → Places
+lent-places c = places (now (c .args .targets)) (now (c .args .values)) (now (c .args .starts)) (now (c .args .rows))
 
 abbrev short : tie.After-read-fields → tie.Else1
 short c = c .before .before .before .before .before
@@ -27,12 +27,12 @@ short c = c .before .before .before .before .before
 abbrev first : tie.After-has-ended → tie.After-read-fields
 first c = c .before .before .before .before .before .before .before .before .before
 
-abbrev ended : tie.After-read-fields2 → tie.Then2
-ended c = c .before .before .before .before .before .before .before .before .before .before .before
+abbrev read-whole : tie.After-read-fields2 → tie.Then2
+read-whole c = c .before .before .before .before .before .before .before .before .before .before .before
 
 -- the first pass leaves what was lent
 untouched : (c : tie.After-read-fields) → let r = c .read-fields .last .1 .1 in
-    places (r .0) (r .1 .0) (r .1 .1 .0) (r .1 .1 .1 .0) ≡ lent (entry (short c))
+    places (r .0) (r .1 .0) (r .1 .1 .0) (r .1 .1 .1 .0) ≡ lent-places (entry (short c))
 untouched c = places-same (c .read-fields .ensures .1) (c .read-fields .ensures .2) (c .read-fields .ensures .3) (c .read-fields .ensures .4)
 
 -- a file that ended has its header
@@ -40,22 +40,22 @@ headed : (c : tie.Then2) → Header (now (entry (short (first (c .before))) .arg
 headed c =
     let pass = first (c .before) in
     let counts = pass .read-fields .ensures .0 in
-    some-read _ (lent (entry (short pass))) (short pass .if1 .left) _ counts _ (c .before .has-ended .ensures) (c .if2 .taken)
+    some-read _ (lent-places (entry (short pass))) (short pass .if1 .left) _ counts _ (c .before .has-ended .ensures) (c .if2 .taken)
 
 -- the test of the room is that of what was lent
-room : (c : tie.After-has-room) → c .has-room .result ≡ roomy (lent (entry (short (first (c .before .before .before .before .before .before)))))
-room c = c .has-room .ensures ∙ ap roomy (untouched (first (c .before .before .before .before .before .before)))
+room : (c : tie.After-has-room) → c .has-room .result ≡ placesSuffice (lent-places (entry (short (first (c .before .before .before .before .before .before)))))
+room c = c .has-room .ensures ∙ ap placesSuffice (untouched (first (c .before .before .before .before .before .before)))
 
 -- the second pass puts what was read into the first places of what was lent
 stored : (c : tie.After-read-fields2) → let r = c .read-fields2 .last .1 .1 in
-    let start = entry (short (first (ended c .before))) in
-    let b = lent start in
+    let start = entry (short (first (read-whole c .before))) in
+    let b = lent-places start in
     let all = readAll (now (start .args .file)) in
     places (r .0) (r .1 .0) (r .1 .1 .0) (r .1 .1 .1 .0)
     ≡ places (put (b .targets) 0 (all .targets)) (put (b .values) 0 (all .values)) (put (b .starts) 0 (all .starts)) (put (b .rows) 0 (all .rows))
 stored c =
     let again = c .read-fields2 .ensures in
-    let pass = first (ended c .before) in
+    let pass = first (read-whole c .before) in
     let kept = pass .read-fields .ensures in
     let all = readAll (now (entry (short pass) .args .file)) in
     let targets = again .1 ∙ ap (λ (l : List Float). put l 0 (all .targets)) (kept .1) in
@@ -70,7 +70,7 @@ refused-requires c κs = search needs
 
 returns : tie.Need-returns
 returns c =
-    let e = too-long _ (lent (c .before .before .before .before .before .before .before)) (c .before .if1 .taken) _ (c .refused .ensures .0) in
+    let e = too-long _ (lent-places (c .before .before .before .before .before .before .before)) (c .before .if1 .taken) _ (c .refused .ensures .0) in
     (e .0, e .1, c .refused .ensures .1)
 
 read-fields-requires : tie.Need-read-fields-requires
@@ -98,7 +98,7 @@ returns-2 : tie.Need-returns-2
 returns-2 c =
     let pass = c .before .before .before .before .before .before .before .before .before .before .before in
     let end = c .before .before .has-ended .ensures in
-    let over = not-ended _ (lent (entry (short pass))) (short pass .if1 .left) _ (pass .read-fields .ensures .0) _ end (c .before .if2 .left) in
+    let over = not-ended _ (lent-places (entry (short pass))) (short pass .if1 .left) _ (pass .read-fields .ensures .0) _ end (c .before .if2 .left) in
     let e = over _ _ (c .refused2 .ensures .0) (untouched pass) in
     (e .0, e .1, c .refused2 .ensures .1)
 
@@ -125,7 +125,7 @@ returns-3 c =
     let whole = c .before .before .before .before .before .before .before in
     let pass = first (whole .before) in
     let end = whole .before .has-ended .ensures in
-    let over = no-room _ (lent (entry (short pass))) (short pass .if1 .left) _ (pass .read-fields .ensures .0) _ end (whole .if2 .taken) in
+    let over = no-room _ (lent-places (entry (short pass))) (short pass .if1 .left) _ (pass .read-fields .ensures .0) _ end (whole .if2 .taken) in
     let e = over (sym (room (c .before .before)) ∙ c .before .if3 .left) _ _ (c .refused3 .ensures .0) (untouched pass) in
     (e .0, e .1, c .refused3 .ensures .1)
 
@@ -137,49 +137,49 @@ read-fields-requires-2 c κs =
 
 shape-of-requires : tie.Need-shape-of-requires
 shape-of-requires c κs =
-    let whole = ended (c .before .before .before .before .before .before .before .before) in
+    let whole = read-whole (c .before .before .before .before .before .before .before .before) in
     (headed whole .long, short (first (whole .before)) .if1 .left)
 
 settings-of-requires : tie.Need-settings-of-requires
 settings-of-requires c κs =
-    let whole = ended (c .before .before .before .before .before .before .before .before .before) in
+    let whole = read-whole (c .before .before .before .before .before .before .before .before .before) in
     (headed whole .long, short (first (whole .before)) .if1 .left)
 
 same-length-9 : tie.Need-same-length-9
 same-length-9 c =
     let again = c .before .before .before .before .before .before .before .before .before .before in
-    let pass = first (ended again .before) in
+    let pass = first (read-whole again .before) in
     again .read-fields2 .kept .1 .1 .0 ∙ pass .read-fields .kept .1 .1 .0
 
 same-length-10 : tie.Need-same-length-10
 same-length-10 c =
     let again = c .before .before .before .before .before .before .before .before .before .before in
-    let pass = first (ended again .before) in
+    let pass = first (read-whole again .before) in
     again .read-fields2 .kept .1 .1 .1 .0 ∙ pass .read-fields .kept .1 .1 .1 .0
 
 same-length-11 : tie.Need-same-length-11
 same-length-11 c =
     let again = c .before .before .before .before .before .before .before .before .before .before in
-    let pass = first (ended again .before) in
+    let pass = first (read-whole again .before) in
     again .read-fields2 .kept .1 .1 .1 .1 .0 ∙ pass .read-fields .kept .1 .1 .1 .1 .0
 
 same-length-12 : tie.Need-same-length-12
 same-length-12 c =
     let again = c .before .before .before .before .before .before .before .before .before .before in
-    let pass = first (ended again .before) in
+    let pass = first (read-whole again .before) in
     again .read-fields2 .kept .1 .1 .1 .1 .1 .0 ∙ pass .read-fields .kept .1 .1 .1 .1 .1 .0
 
 returns-4 : tie.Need-returns-4
 returns-4 c =
     let again = c .before .before .before .before .before .before .before .before .before .before in
     let test = again .before .before .before .before .before in
-    let whole = ended again in
+    let whole = read-whole again in
     let pass = first (whole .before) in
     let end = whole .before .has-ended .ensures in
-    let roomy-lent = sym (room (test .before)) ∙ test .if3 .taken in
+    let suffices = sym (room (test .before)) ∙ test .if3 .taken in
     let counts = again .read-fields2 .ensures .0 in
     let sizes = sizes-read _ _ counts _ _ (c .before .shape-of .ensures) (c .settings-of .ensures) in
-    let over = read-well _ (lent (entry (short pass))) (short pass .if1 .left) _ (pass .read-fields .ensures .0) _ end (whole .if2 .taken) roomy-lent in
+    let over = read-well _ (lent-places (entry (short pass))) (short pass .if1 .left) _ (pass .read-fields .ensures .0) _ end (whole .if2 .taken) suffices in
     let e = over _ _ sizes (stored again) in
     (e .0, e .1, sizes-inside _ _ counts (short pass .if1 .left) (headed whole) _ (c .before .shape-of .ensures))
 

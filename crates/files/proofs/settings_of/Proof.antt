@@ -1,6 +1,6 @@
 -- `settings_of`: each number from its place. Assumes nothing.
 use native.Mathlib.Omega.{arith}
-use Rattle.files.specs.Problem.{settingsOf}
+use Rattle.files.specs.Problem.{headerSettings}
 use borrow.Author.Needs.{needs}
 use Rattle.files.proofs.settings_of.Statement.{statement}
 use Rattle.files.proofs.settings_of.Tie as tie
@@ -30,7 +30,7 @@ cast-t12 : tie.Need-cast-t12
 cast-t12 c = omega (arith, c .shared-slice-known3 .given 14)
 
 returns : tie.Need-returns
-unfolding settingsOf
+unfolding headerSettings
 returns c =
     rw (
       ← c .before .before .before .before .before .before .penalty-of .ensures,

@@ -1,5 +1,5 @@
 -- `shape_of`: the layout by its code, then the two sizes. Assumes nothing.
-use Rattle.files.specs.Problem.{shapeOf}
+use Rattle.files.specs.Problem.{headerShape}
 use Rattle.files.proofs.Laws.Fields.{layout-by}
 use borrow.Author.Needs.{needs}
 use Rattle.files.proofs.shape_of.Statement.{statement}
@@ -15,7 +15,7 @@ u32-at-requires-2 : tie.Need-u32-at-requires-2
 u32-at-requires-2 c κs = search needs
 
 returns : tie.Need-returns
-unfolding shapeOf
+unfolding headerShape
 returns c =
     rw (← c .before .u32-at .ensures .0, ← c .u32-at2 .ensures .0, layout-by _ _ (c .before .before .if1 .came) (λ t. t .taken) (λ t. t .left))
 

@@ -18,8 +18,8 @@ use Rattle.listings.specs.Listing.{listed}
 use Rattle.listings.specs.Call.{writeFault, writeCall, writeLeft}
 use Rattle.listings.specs.Wrote.{Wrote}
 
-pub sizes : (p n : ℕ) (r : Bool) → r ≡ (leb p 32 and leb n 256) → r ≡ true → (p ≤ 32) × (n ≤ 256)
-sizes p n r e h = let b = and-both (leb p 32) (leb n 256) (sym e ∙ h) in (leb-true _ _ (b .0), leb-true _ _ (b .1))
+pub sizes-within : (p n : ℕ) (r : Bool) → r ≡ (leb p 32 and leb n 256) → r ≡ true → (p ≤ 32) × (n ≤ 256)
+sizes-within p n r e h = let b = and-both (leb p 32) (leb n 256) (sym e ∙ h) in (leb-true _ _ (b .0), leb-true _ _ (b .1))
 
 module _ (o : Outcome Report) (w f : List Float) (out : List ℕ) (r : Bool) (e : r ≡ (leb (length w) 32 and leb (length f) 256)) where
   pub refused-1 : (a : Outcome ℕ) → r ≡ false → a ≡ refused 1 0 → (a ≡ writeCall o w f out) × (out ≡ writeLeft o w f out)

@@ -12,7 +12,7 @@ use lib.ListN.{length, length-append}
 use Rattle.doubles.specs.Num.{pick}
 use Rattle.doubles.specs.Steps.{steps}
 use Rattle.io.specs.Digits.{digits, glyph, Fewest}
-use Rattle.listings.specs.Listing.{places, decimal, hex16}
+use Rattle.listings.specs.Listing.{digitCount, decimal, hex16}
 use Rattle.listings.specs.Wrote.{Room}
 
 -- one more for each of the first j powers that n reaches
@@ -45,9 +45,9 @@ module _ (n r : ℕ) (h : Fewest 10 1 n r) where
       counted-beyond n j (omega arith) ∙ beyond d j (omega arith)
   beyond (suc d) zero e = absurd (omega arith)
 
-  pub places-fewest : r ≤ 20 → places n ≡ r
-  unfolding places
-  places-fewest k = beyond (20 - r) 19 (omega arith)
+  pub digits-fewest : r ≤ 20 → digitCount n ≡ r
+  unfolding digitCount
+  digits-fewest k = beyond (20 - r) 19 (omega arith)
 
 -- ---- bounds
 counted-few : (n j : ℕ) → counted n j ≤ j + 1
@@ -76,21 +76,21 @@ module _ (n m : ℕ) (l : 1 ≤ m) (h : n < 10 ^ m) where
           omega arith
       go p false e = p
 
-  pub places-below : places n ≤ m
-  unfolding places
-  places-below = counted-below 19
+  pub digits-below : digitCount n ≤ m
+  unfolding digitCount
+  digits-below = counted-below 19
 
-pub places-few : (n : ℕ) → places n ≤ 20
-unfolding places
-places-few n = counted-few n 19
+pub digits-few : (n : ℕ) → digitCount n ≤ 20
+unfolding digitCount
+digits-few n = counted-few n 19
 
 length-digits : (b k n : ℕ) → length (digits b k n) ≡ k
 length-digits b zero n = refl
 length-digits b (suc k) n = length-append (digits b k (n / b)) (glyph (n % b) ∷ []) ∙ rw (length-digits b k (n / b), add-one)
 
-pub length-decimal : (n : ℕ) → length (decimal n) ≡ places n
+pub length-decimal : (n : ℕ) → length (decimal n) ≡ digitCount n
 unfolding decimal
-length-decimal n = length-digits 10 (places n) n
+length-decimal n = length-digits 10 (digitCount n) n
 
 pub length-hex16 : (n : ℕ) → length (hex16 n) ≡ 16
 unfolding hex16
@@ -111,7 +111,7 @@ pub decimal-is : (n r : ℕ) (text : List ℕ) → n < 2 ^ 64 → Fewest 10 1 n 
 unfolding decimal
 decimal-is n r text l h e =
     let k : r ≤ 20 = at-most 10 1 n r 20 (omega arith) h (omega arith) (omega arith) in
-    e ∙ ap (λ (d : ℕ). digits 10 d n) (sym (places-fewest n r h k))
+    e ∙ ap (λ (d : ℕ). digits 10 d n) (sym (digits-fewest n r h k))
 
 pub hex-is : (n r : ℕ) (text : List ℕ) → n < 2 ^ 64 → Fewest 16 16 n r → text ≡ digits 16 r n → text ≡ hex16 n
 unfolding hex16

@@ -1,5 +1,5 @@
 -- `write_listing`: the tests in their order, then the text from place 0 on. Assumes nothing.
-use Rattle.listings.proofs.Laws.Calls.{refused-1, refused-3, sizes, written, within}
+use Rattle.listings.proofs.Laws.Calls.{refused-1, refused-3, sizes-within, written, within}
 use Rattle.listings.proofs.Laws.Lines.{listing-room, refusal-room}
 use borrow.Author.Needs.{needs}
 use Rattle.listings.proofs.write_listing.Statement.{statement}
@@ -37,7 +37,7 @@ enum-known-fit-2 c = search needs
 put-listing-requires : tie.Need-put-listing-requires
 put-listing-requires c κs =
     let room = c .before .before .before .before in
-    let e = sizes _ _ _ (room .before .before .sizes-fit .ensures) (room .before .if1 .taken) in
+    let e = sizes-within _ _ _ (room .before .before .sizes-fit .ensures) (room .before .if1 .taken) in
     listing-room _ _ _ _ (e .0) (e .1) (room .if2 .taken)
 
 same-length : tie.Need-same-length

@@ -1,11 +1,11 @@
 -- `replay_designs::main` is safe and ends: what is kept holds at each record, and each record leaves fewer turns. Assumes nothing.
-use Rattle.vectors.specs.Kept.{Kept}
+use Rattle.vectors.specs.ProgressWithin.{ProgressWithin}
 use borrow.Author.Needs.{needs}
 use Rattle.replay_designs.proofs.main.Statement.{statement}
 use Rattle.replay_designs.proofs.main.Tie as tie
 
 abbrev Inv-loop : tie.InvT-loop
-Inv-loop path length bytes₀ words₀ p₀ bytes words p = Kept p
+Inv-loop path length bytes₀ words₀ p₀ bytes words p = ProgressWithin p
 
 abbrev μ-loop : tie.MeasureT-loop
 μ-loop path length bytes₀ words₀ p₀ bytes words p = p .left

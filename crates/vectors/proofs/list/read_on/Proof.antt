@@ -1,12 +1,12 @@
 -- `list::read_on` reads on: what is kept holds after each turn, and each turn leaves fewer. Assumes nothing.
 use Prim.Native.Nat.{_≤_}
-use Rattle.vectors.specs.Kept.{Kept}
+use Rattle.vectors.specs.ProgressWithin.{ProgressWithin}
 use borrow.Author.Needs.{needs}
 use Rattle.vectors.proofs.list.read_on.Statement.{statement}
 use Rattle.vectors.proofs.list.read_on.Tie as tie
 
 abbrev Inv-loop : tie.InvT-loop
-Inv-loop path bytes₀ words₀ p₀ bytes words p = Kept p × (p .left ≤ p₀ .left)
+Inv-loop path bytes₀ words₀ p₀ bytes words p = ProgressWithin p × (p .left ≤ p₀ .left)
 
 abbrev μ-loop : tie.MeasureT-loop
 μ-loop path bytes₀ words₀ p₀ bytes words p = p .left

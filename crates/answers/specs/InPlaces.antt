@@ -3,12 +3,14 @@ use mathlib.Core.List.{List}
 use Prim.Native.Nat.{ℕ, _≤_}
 use lib.ListN.{take}
 use lib.Ieee.{Float}
-use Rattle.files.specs.Call.{Problem}
 use Rattle.doubles.specs.Answer.{answered}
+use Rattle.designs.specs.Given.{given}
+use Rattle.files.specs.Call.{Problem}
 use Rattle.files.specs.declared.Sizes.{Sizes}
 use Rattle.answers.specs.Printed.{printedFor}
 
-pub record Inside (z : Sizes) (a b c d : ℕ) : Type 0 where
+-- its arrays lie in the first places, and its sizes are the program's
+pub record ProblemInside (z : Sizes) (a b c d : ℕ) : Type 0 where
   pub targets : z .targets ≤ a
   pub values : z .values ≤ b
   pub starts : z .starts ≤ c
@@ -18,14 +20,10 @@ pub record Inside (z : Sizes) (a b c d : ℕ) : Type 0 where
 
 abbrev pub problemIn : Sizes → List Float → List Float → List ℕ → List ℕ → Problem
 problemIn z targets values starts rows = record {
-  shape = z .shape;
+  given = given (z .shape) (take (z .starts) starts) (take (z .rows) rows) (take (z .values) values) (take (z .targets) targets);
   settings = z .settings;
-  targets = take (z .targets) targets;
-  values = take (z .values) values;
-  starts = take (z .starts) starts;
-  rows = take (z .rows) rows;
 }
 
 -- the text that is printed for it
-abbrev pub listing : Sizes → List Float → List Float → List ℕ → List ℕ → List ℕ
-listing z targets values starts rows = printedFor (answered (problemIn z targets values starts rows))
+abbrev pub printedIn : Sizes → List Float → List Float → List ℕ → List ℕ → List ℕ
+printedIn z targets values starts rows = printedFor (answered (problemIn z targets values starts rows))

@@ -7,7 +7,7 @@ use vectors::parts::Part;
 use vectors::parts::part_at;
 
 // All arrays of a record, in their order. One that the code does not have is empty.
-pub struct Parts {
+pub struct Arrays {
     pub starts: Part,
     pub rows: Part,
     pub values: Part,
@@ -55,7 +55,7 @@ fn begin(has_design: bool) -> usize
 }
 
 // The arrays of a record. Code 13 alone has no design.
-pub fn parts_of(words: &Words, code: u64) -> Parts
+pub fn arrays_of(words: &Words, code: u64) -> Arrays
     ensures { λ r. ⌜ AllWithin r ⌝ }
 {
     let has_design = code != 0x13;
@@ -65,7 +65,7 @@ pub fn parts_of(words: &Words, code: u64) -> Parts
     let first = part_if(code != 0x14, words, values.next);
     let second = part_if(has_second(code), words, first.next);
     let lent = part_if(has_lent(code), words, second.next);
-    Parts {
+    Arrays {
         starts: starts,
         rows: rows,
         values: values,
