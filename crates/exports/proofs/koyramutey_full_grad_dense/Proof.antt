@@ -1,4 +1,4 @@
--- `koyramutey_full_grad_dense`: the verdict as two numbers. Assumes nothing.
+-- `koyramutey_full_grad_dense`: the call with a dense shape, and its verdict as two numbers. Assumes nothing.
 use borrow.Author.Needs.{needs}
 use Rattle.exports.proofs.koyramutey_full_grad_dense.Statement.{statement}
 use Rattle.exports.proofs.koyramutey_full_grad_dense.Tie as tie

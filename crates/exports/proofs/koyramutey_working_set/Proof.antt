@@ -1,4 +1,4 @@
--- `koyramutey_working_set`: the call, and its answer in numbers. Assumes nothing.
+-- `koyramutey_working_set`: the call's fault and size, told as numbers. Assumes nothing.
 use denote.Ref.{now}
 use Rattle.runs.specs.WorkingSet.{size}
 use Rattle.worksets.specs.Call.{wsFault, wsCall}
@@ -18,12 +18,12 @@ same-length c = search needs
 returns : tie.Need-returns
 unfolding wsCall
 returns c =
-    let entry = c .before .before .before .before .before .before .before .before .before .before in
-    let a = entry .args in
-    let called = c .before .before .before .before .before .construct-ws-from-kkt .ensures in
+    let at-set = c .before .before .before .before .before in
+    let a = at-set .before .before .before .before .before .args in
+    let done = at-set .construct-ws-from-kkt .ensures in
     let fault = wsFault (now (a .violations)) (now (a .w)) (a .start) (now (a .indices)) in
-    let told = c .tell-size .ensures fault (size (a .start) (now (a .w))) (called .0) in
-    (told .0, told .1, told .2, called .1)
+    let told = c .tell-size .ensures fault (size (a .start) (now (a .w))) (done .0) in
+    (told .0, told .1, told .2, done .1)
 
 pub koyramutey-working-set-spec : {M : Type 1} → statement M
 koyramutey-working-set-spec =
