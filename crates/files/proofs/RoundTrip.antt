@@ -19,7 +19,7 @@ use Rattle.leaves.specs.declared.penalties.separable.Penalty.the-variants.{L1, 
 use Rattle.designs.specs.declared.Layout.{Layout}
 use Rattle.designs.specs.declared.Layout.the-variants.{Dense, Csc}
 use Rattle.designs.specs.declared.Shape.{Shape}
-use Rattle.designs.specs.Given.{given}
+use Rattle.designs.specs.Given.{Given, given}
 use Rattle.runs.specs.declared.Settings.{Settings}
 use Rattle.files.specs.Bytes.{byte, u16, u32, u64, f64, doubles, indices}
 use Rattle.files.specs.Problem.{Read, nothingRead, isCsc, headerShape, headerPenalty, headerSettings, goodHeader, tagAt, lengthAt, whole}
@@ -289,48 +289,51 @@ module _ (a : Shape) (s : Settings) (rest : List ℕ) (few : length (headed a s 
 
 -- ---- the whole file
 module _ (P : Problem) where
+  abbrev g : Given
+  g = P .given
+
   abbrev last-fields : Layout → List ℕ
-  last-fields g = sparse g (P .given .starts) (P .given .rows)
+  last-fields layout = sparse layout (g .starts) (g .rows)
 
   abbrev values-on : List ℕ
-  values-on = field 3 (flatMap bytesOf (P .given .values)) ++ last-fields (P .given .shape .layout)
+  values-on = field 3 (flatMap bytesOf (g .values)) ++ last-fields (g .shape .layout)
 
   abbrev targets-on : List ℕ
-  targets-on = field 2 (flatMap bytesOf (P .given .targets)) ++ values-on
+  targets-on = field 2 (flatMap bytesOf (g .targets)) ++ values-on
 
   abbrev file : List ℕ
-  file = headed (P .given .shape) (P .settings) targets-on
+  file = headed (g .shape) (P .settings) targets-on
 
   abbrev main-read : Read
-  main-read = with-doubles (with-doubles begin 2 (P .given .targets)) 3 (P .given .values)
+  main-read = with-doubles (with-doubles begin 2 (g .targets)) 3 (g .values)
 
   module _ (F : Fitting P) (few : length file ≤ 49152) where
-    main-reached : Reached file (last-fields (P .given .shape .layout)) main-read
+    main-reached : Reached file (last-fields (g .shape .layout)) main-read
     main-reached =
-        let h = header-read (P .given .shape) (P .settings) targets-on few (F .samples) (F .features) in
-        let t = doubles-read file few begin 2 (P .given .targets) values-on h (omega arith) (omega arith) (omega arith) (F .targets) refl in
-        doubles-read file few (with-doubles begin 2 (P .given .targets)) 3 (P .given .values) (last-fields (P .given .shape .layout)) t
-        (omega arith) (omega arith) (omega arith) (F .values) (let q = F .stored in le-leb (0 + length (P .given .values)) 4096 (omega arith))
+        let h = header-read (g .shape) (P .settings) targets-on few (F .samples) (F .features) in
+        let t = doubles-read file few begin 2 (g .targets) values-on h (omega arith) (omega arith) (omega arith) (F .targets) refl in
+        doubles-read file few (with-doubles begin 2 (g .targets)) 3 (g .values) (last-fields (g .shape .layout)) t
+        (omega arith) (omega arith) (omega arith) (F .values) (let q = F .stored in le-leb (0 + length (g .values)) 4096 (omega arith))
 
     -- the same problem, if its arrays came back
-    same-problem : (s : Read) → s .targets ≡ P .given .targets → s .values ≡ P .given .values → s .starts ≡ P .given .starts → s .rows ≡ P .given .rows
+    same-problem : (s : Read) → s .targets ≡ g .targets → s .values ≡ g .values → s .starts ≡ g .starts → s .rows ≡ g .rows
         → answered (problem file s) ≡ answered P
     same-problem s t v b r =
         let n = F .samples in
         let p = F .features in
-        let e = shape-back (P .given .shape) (P .settings) targets-on (omega arith) (omega arith) in
-        let g = settings-back (P .given .shape) (P .settings) targets-on (F .start) (F .iterations) (F .epochs) (F .depth) (F .tolerance) (F .penalty) in
-        λ i. answered (record { given = given (e i) (b i) (r i) (v i) (t i); settings = g i })
+        let e = shape-back (g .shape) (P .settings) targets-on (omega arith) (omega arith) in
+        let settings = settings-back (g .shape) (P .settings) targets-on (F .start) (F .iterations) (F .epochs) (F .depth) (F .tolerance) (F .penalty) in
+        λ i. answered (record { given = given (e i) (b i) (r i) (v i) (t i); settings = settings i })
 
-    by-layout : (g : Layout) → P .given .shape .layout ≡ g → Reached file (last-fields g) main-read → parsed file ≡ answered P
+    by-layout : (layout : Layout) → g .shape .layout ≡ layout → Reached file (last-fields layout) main-read → parsed file ≡ answered P
     by-layout Dense e R = all-read file few main-read R ∙ same-problem main-read refl refl (sym (F .dense e .0)) (sym (F .dense e .1))
     by-layout Csc e R =
-        let c : isCsc file ≡ true = ap (λ (g : ℕ). eqb g 1) (design-back (P .given .shape) (P .settings) targets-on ∙ ap designCode e) in
-        let rows-field = field 5 (flatMap bytes32 (P .given .rows)) in
-        let s = with-words main-read 4 (P .given .starts) in
-        let b = words-read file few main-read 4 (P .given .starts) rows-field R c (omega arith) (omega arith) (omega arith) (F .starts) in
-        let r = words-read file few s 5 (P .given .rows) [] (rw (append-nil rows-field) b) c (omega arith) (omega arith) (omega arith) (F .rows) in
-        all-read file few (with-words s 5 (P .given .rows)) r ∙ same-problem (with-words s 5 (P .given .rows)) refl refl refl refl
+        let c : isCsc file ≡ true = ap (λ (code : ℕ). eqb code 1) (design-back (g .shape) (P .settings) targets-on ∙ ap designCode e) in
+        let rows-field = field 5 (flatMap bytes32 (g .rows)) in
+        let s = with-words main-read 4 (g .starts) in
+        let b = words-read file few main-read 4 (g .starts) rows-field R c (omega arith) (omega arith) (omega arith) (F .starts) in
+        let r = words-read file few s 5 (g .rows) [] (rw (append-nil rows-field) b) c (omega arith) (omega arith) (omega arith) (F .rows) in
+        all-read file few (with-words s 5 (g .rows)) r ∙ same-problem (with-words s 5 (g .rows)) refl refl refl refl
 
 pub round-trip : (P : Problem) → Fitting P → length (written P) ≤ 49152 → parsed (written P) ≡ answered P
 unfolding written

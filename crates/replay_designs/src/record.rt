@@ -1,4 +1,6 @@
 // One record: a code, the inputs of a call and the answers that the oracle had. The first `n` of the words are the record.
+// The codes, in hex: 10 initialize, 11 gradient_j, 12 full_grad, 13 value, 14 update_model_fit, 15 compute_extrapolated_fit, 16 the alpha_max of the
+// layout, 17 check.
 ghost use Prim.Native.Nat.{_+_, _≤_};
 ghost use Rattle.replay_designs.specs.AllWithin.{AllWithin};
 ghost use Rattle.vectors.specs.Within.{Within};
@@ -35,7 +37,7 @@ struct Call {
 struct Answers {
     number: u64,
     place: u64,
-    r: u64,
+    answer: u64,
     lent: Part,
 }
 
@@ -141,17 +143,17 @@ fn answers_of(words: &Words, n: usize, code: u64, at: usize, count: usize) -> An
     requires { ⌜ (at + 2 + count ≤ n) × (n ≤ 1024) ⌝ }
     ensures { λ r. ⌜ Within (r .lent) ⌝ }
 {
-    let places = n - count;
-    let r = if doubles_answered(code) == 1 {
-        words[places - 1]
+    let lent_at = n - count;
+    let answer = if doubles_answered(code) == 1 {
+        words[lent_at - 1]
     } else {
         0
     };
     Answers {
         number: words[at],
         place: words[at + 1],
-        r: r,
-        lent: part_of(places, count),
+        answer: answer,
+        lent: part_of(lent_at, count),
     }
 }
 
@@ -159,10 +161,10 @@ fn answers_of(words: &Words, n: usize, code: u64, at: usize, count: usize) -> An
 fn agrees(words: &Words, call: Call, arrays: Arrays, answers: Answers) -> bool
     requires { ⌜ AllWithin arrays × Within (answers .lent) ⌝ }
 {
-    let out = port_answer(words, call, arrays);
-    let answer = out.answer;
-    let lent = out.lent;
-    if same_number(answer, answers.number, answers.place, answers.r) {
+    let port = port_answer(words, call, arrays);
+    let answer = port.answer;
+    let lent = port.lent;
+    if same_number(answer, answers.number, answers.place, answers.answer) {
         same_doubles(&lent, words, answers.lent)
     } else {
         false

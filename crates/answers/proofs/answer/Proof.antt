@@ -9,6 +9,17 @@ use borrow.Author.Needs.{needs}
 use Rattle.answers.proofs.answer.Statement.{statement}
 use Rattle.answers.proofs.answer.Tie as tie
 
+-- ---- behind the reading of the file, and what was refused or read
+abbrev entry : tie.After-read → tie.Start
+entry c = c .before .before .before .before .before .before .before
+
+abbrev refusal-of : tie.After-r → tie.After-read
+refusal-of c = c .before .before .before .before .before .before
+
+abbrev problem-of : tie.After-problem → tie.After-read
+problem-of c = c .before .before .before .before .before .before
+
+-- ---- the needs
 slice-aggregate-read : tie.Need-slice-aggregate-read
 slice-aggregate-read c = search needs
 
@@ -59,12 +70,12 @@ slice-aggregate-fit-listing-4 c = search needs
 
 fit-listing-requires : tie.Need-fit-listing-requires
 fit-listing-requires c κs =
-    let known = c .before .before .before .before .before .before .problem .given in
-    let read = c .before .before .before .before .before .before .before .before .before .before .before .before .read in
+    let known = c .before .before .before .before .before .before in
+    let read = problem-of known .read in
     let l = read .last .1 in
     let k = read .kept .1 in
-    let sizes = rw (known .1) at (read .ensures .2) in
-    own-places (known .0 .0) (l .0) (l .1 .0) (l .1 .1 .0) (l .1 .1 .1 .0) #0 (k .0) (k .1 .0) (k .1 .1 .0) (k .1 .1 .1 .0) sizes
+    let sizes = rw (known .problem .given .1) at (read .ensures .2) in
+    own-places (known .problem .given .0 .0) (l .0) (l .1 .0) (l .1 .1 .0) (l .1 .1 .1 .0) #0 (k .0) (k .1 .0) (k .1 .1 .0) (k .1 .1 .1 .0) sizes
 
 same-length : tie.Need-same-length
 same-length c = search needs
@@ -72,11 +83,11 @@ same-length c = search needs
 returns : tie.Need-returns
 returns c =
     let told = c .before .before .write-listing .ensures in
-    let behind = c .before .before .before .before .before .before .before .before .before .before .before .before .before in
-    let entry = behind .before .before .before .before .before .before .before in
-    let is-refused = sym (ap parsedOf (c .before .before .before .before .before .before .before .r .given .1)) ∙ behind .read .ensures .0 in
+    let known = c .before .before .before .before .before .before .before in
+    let behind = refusal-of known in
+    let is-refused = sym (ap parsedOf (known .r .given .1)) ∙ behind .read .ensures .0 in
     let refused = read-refused _ _ (own-room _) _ _ is-refused in
-    let e = refusal-printed _ _ _ _ _ (now (entry .args .out)) _ _ refused (omega arith) (omega arith) (told .0) (told .1) in
+    let e = refusal-printed _ _ _ _ _ (now (entry behind .args .out)) _ _ refused (omega arith) (omega arith) (told .0) (told .1) in
     (e .0, e .1, told .2)
 
 same-length-2 : tie.Need-same-length-2
@@ -85,13 +96,13 @@ same-length-2 c = search needs
 returns-2 : tie.Need-returns-2
 returns-2 c =
     let told = c .before .before .fit-listing .ensures in
-    let behind = c .before .before .before .before .before .before .before .before .before .before .before .before .before .before .before in
-    let entry = behind .before .before .before .before .before .before .before in
+    let known = c .before .before .before .before .before .before .before .before .before in
+    let behind = problem-of known in
     let read = behind .read in
     let l = read .last .1 in
-    let sizes = sym (ap parsedOf (c .before .before .before .before .before .before .before .before .before .problem .given .1)) ∙ read .ensures .0 in
+    let sizes = sym (ap parsedOf (known .problem .given .1)) ∙ read .ensures .0 in
     let there = places (l .0) (l .1 .0) (l .1 .1 .0) (l .1 .1 .1 .0) in
-    let e = fit-printed _ _ (now (entry .args .out)) _ _ (read-problem _ _ (own-room _) _ there sizes (read .ensures .1)) (told .0) (told .1) in
+    let e = fit-printed _ _ (now (entry behind .args .out)) _ _ (read-problem _ _ (own-room _) _ there sizes (read .ensures .1)) (told .0) (told .1) in
     (e .0, e .1, told .2)
 
 pub answer-spec : {M : Type 1} → statement M

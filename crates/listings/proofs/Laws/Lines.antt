@@ -85,9 +85,10 @@ length-bits name x =
 length-entry : (name : List ℕ) (i : ℕ) (x : Float) → length (entryLine name i x) ≡ length name + digitCount i + 18
 unfolding entryLine
 length-entry name i x =
-    let e : length (entryLine name i x) ≡ length (labelled name i) + length (bitsLine (codes " ") x) = length-and-then (labelled name i) (bitsLine (codes " ") x) in
+    let line = bitsLine (codes " ") x in
+    let e : length (entryLine name i x) ≡ length (labelled name i) + length line = length-and-then (labelled name i) line in
     let q = length-labelled name i in
-    let k : length (bitsLine (codes " ") x) ≡ 18 = unfold codes in length-bits (codes " ") x in
+    let k : length line ≡ 18 = unfold codes in length-bits (codes " ") x in
     omega arith
 
 -- where m digits hold every index
@@ -111,7 +112,13 @@ report-length r =
     let i' : length i ≤ 32 = unfold codes in length-count (codes "iterations ") (r .iterations) in
     let e' : length e ≤ 28 = unfold codes in length-count (codes "epochs ") (r .epochs) in
     let x' : length x ≤ 36 = unfold codes in length-count (codes "extrapolations ") (r .extrapolations) in
-    omega (arith, length-and-then s (v and-then i and-then e and-then x), length-and-then v (i and-then e and-then x), length-and-then i (e and-then x), length-and-then e x)
+    omega (
+      arith,
+      length-and-then s (v and-then i and-then e and-then x),
+      length-and-then v (i and-then e and-then x),
+      length-and-then i (e and-then x),
+      length-and-then e x,
+    )
 
 -- ---- 8,192 bytes hold the largest listing, and any refusal
 pub listing-room : (out : List ℕ) (r : Report) (w f : List Float) → length w ≤ 32 → length f ≤ 256 → 8192 ≤ length out → Room out 0 (listing r w f)
