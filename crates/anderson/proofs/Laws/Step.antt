@@ -17,7 +17,8 @@ use Rattle.designs.specs.Given.{Given, designOf}
 use Rattle.runs.specs.Epoch.{Point}
 use Rattle.runs.specs.Extrapolation.{Tried, candidate, coefficients, objectiveOf, extrapolate, tried, gathered, keptNow}
 use Rattle.anderson.specs.Places.{Sized, StepReady, keptIn, oldAt, fitAt, taskIn, pointOf, chosenBy, triedFrom}
-use Rattle.anderson.proofs.Laws.Scratch.{room-split, old-put, kept-then, both-put, old-long, new-long, both-old, both-fit, both-kept, both-first, row-kept, row-first}
+use Rattle.anderson.proofs.Laws.Scratch.{room-split, old-put, kept-then, both-put, old-long, new-long}
+use Rattle.anderson.proofs.Laws.Scratch.{both-old, both-fit, both-kept, both-first, row-kept, row-first}
 use Rattle.anderson.proofs.Laws.Tries.{tried-from, due-here}
 
 -- where the parts are: what `lay_out` promises
@@ -71,8 +72,9 @@ pub chosen-here : (g : Given) (penalty : Penalty) (K : ℕ) (ws : List ℕ)
 chosen-here g penalty K ws w fit l z c v m before a b o f e r R at q eb ec er =
     let x = extrapolated (designOf g) ws v in
     let new : take (e - f) (drop f m) ≡ x = both-fit (g .shape) K l w x (R .sized .weights) (q .2) (R .sized .room) m o f e (q .1) (at .2) (at .3) (at .4) in
-    let old : take (f - o) (drop o m) ≡ w = both-old (g .shape) K l w x (R .sized .weights) (q .2) (R .sized .room) m o f (q .1) (at .2) (at .3) in (
-      tried-from (taskIn g penalty l) (g .targets) K ws (keptIn (g .shape) K l) z c w fit v (take (e - f) (drop f m)) (take (f - o) (drop o m)) before r er eb new old (q .0) ec,
+    let old : take (f - o) (drop o m) ≡ w = both-old (g .shape) K l w x (R .sized .weights) (q .2) (R .sized .room) m o f (q .1) (at .2) (at .3) in
+    let choice = tried-from (taskIn g penalty l) (g .targets) K ws (keptIn (g .shape) K l) z c w fit v _ _ before r in (
+      choice er eb new old (q .0) ec,
       both-kept (g .shape) K l w x (R .sized .weights) (q .2) (R .sized .room) m (q .1),
       both-first (g .shape) K l w x (R .sized .weights) (q .2) (R .sized .room) m (q .1),
     )

@@ -41,8 +41,9 @@ row-done f K i row h a b e =
     let same : tab f K ≡ tab g K = tab-same f g K (λ j k. rw (lt-ltb j K k)) in
     let q : row ≡ tab g K ++ drop K l = (rw (le-antisymm a b) at e) ∙ ap (λ (t : List Float). t ++ drop K l) same in
     let here : #1 ≡ g K = rw (le-ltb K K (le-refl K), eq-eqb K K refl) in
+    let behind = tab-filled g l nan (K + 1) 11 refl (omega arith) in
     tab-more g l row K q #1 (omega (arith, length-replicate 11 #0)) here
-    ∙ tab-filled g l nan (K + 1) 11 refl (omega arith) (λ j k m. getD-replicate 11 j #0 nan m ∙ rw (le-ltb j K (omega arith), ne-eqb j K (λ x. omega (arith, x))))
+    ∙ behind (λ j k m. getD-replicate 11 j #0 nan m ∙ rw (le-ltb j K (omega arith), ne-eqb j K (λ x. omega (arith, x))))
 
 -- ---- places are small
 pub places-small : (K p : ℕ) → K ≤ 10 → p ≤ 8192 → (2 * K + 4) * p ≤ 196608

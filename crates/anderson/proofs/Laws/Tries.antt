@@ -16,7 +16,8 @@ use Rattle.designs.specs.Given.{Given}
 use Rattle.designs.specs.Design.{extrapolated}
 use Rattle.runs.specs.Epoch.{Task, Point}
 use Rattle.runs.specs.Extrapolation as ext
-use Rattle.runs.specs.Extrapolation.{Tried, keeps, combined, candidate, coefficients, system, objectiveOf, better, chosen, candidateOf, extrapolate, fromSystem, due, tried}
+use Rattle.runs.specs.Extrapolation.{Tried, keeps, combined, candidate, coefficients, system, objectiveOf, better, chosen, candidateOf}
+use Rattle.runs.specs.Extrapolation.{extrapolate, fromSystem, due, tried}
 use Rattle.anderson.specs.Places.{pointOf, chosenBy, triedFrom, taskIn, keptIn, StepReady}
 
 -- all places of the working set written, over zeros

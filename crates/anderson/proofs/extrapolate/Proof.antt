@@ -1,11 +1,28 @@
 -- `extrapolate`: the system is eliminated; where it is singular nothing is tried, else the candidate of its solution. Assumes nothing.
-use mathlib.Core.Path.{refl}
+use mathlib.Core.Path.{_≡_, refl}
+use Prim.Native.Nat.{_-_}
+use lib.ListN.{take, drop}
+use denote.Ref.{now}
+use Rattle.anderson.specs.Places.{keptIn}
 use Rattle.anderson.proofs.Laws.Scratch.{kept-read}
 use Rattle.anderson.proofs.Laws.Tries.{from-regular, from-singular}
 use borrow.Author.Needs.{needs}
 use Rattle.anderson.proofs.extrapolate.Statement.{statement}
 use Rattle.anderson.proofs.extrapolate.Tie as tie
 
+-- ---- behind the system: the parts laid out, and the rows that are kept
+abbrev laid-out : tie.After-system → tie.After-lay-out
+laid-out c = c .before .before .before
+
+abbrev entry : tie.After-lay-out → tie.Start
+entry c = c .before .before .before .before .before .before .before .before .before
+
+kept : (c : tie.After-lay-out) → let a = entry c .args in
+    take (c .lay-out .result .until - c .lay-out .result .kept) (drop (c .lay-out .result .kept) (now (a .scratch)))
+    ≡ keptIn (a .shape) (a .depth) (now (a .scratch))
+kept c = kept-read (entry c .args .shape) (entry c .args .depth) _ _ _ (c .lay-out .ensures .0) (c .lay-out .ensures .1)
+
+-- ---- the needs
 lay-out-requires : tie.Need-lay-out-requires
 lay-out-requires c κs = search needs
 
@@ -35,14 +52,10 @@ same-length c = search needs
 
 returns : tie.Need-returns
 returns c =
-    let at-eliminate = c .before .before in
-    let at-system = at-eliminate .before in
-    let laid = at-system .before .before .before .lay-out .ensures in
-    let entry = at-system .before .before .before .before .before .before .before .before .before .before .before .before in
-    let kept = kept-read (entry .args .shape) (entry .args .depth) _ _ _ (laid .0) (laid .1) in
-    let singular =
-    from-singular _ _ _ _ _ _ _ _ _ _ kept (at-system .system .ensures) (at-eliminate .eliminate .ensures) (c .before .is-regular .ensures) (c .if1 .left) in
-    (singular, refl, refl)
+    let eliminated = c .before .before in
+    let built = eliminated .before in
+    let from = from-singular _ _ _ _ _ _ _ _ _ _ (kept (laid-out built)) (built .system .ensures) (eliminated .eliminate .ensures) in
+    (from (c .before .is-regular .ensures) (c .if1 .left), refl, refl)
 
 read-off-requires : tie.Need-read-off-requires
 read-off-requires c κs = search needs
@@ -61,16 +74,15 @@ same-length-4 c = search needs
 
 returns-2 : tie.Need-returns-2
 returns-2 c =
-    let at-candidate = c .before .before .before .before .before .before in
-    let at-read-off = at-candidate .before .before .before .before in
-    let at-eliminate = at-read-off .before .before .before in
-    let at-system = at-eliminate .before in
-    let laid = at-system .before .before .before .lay-out .ensures in
-    let entry = at-system .before .before .before .before .before .before .before .before .before .before .before .before in
-    let tried = at-candidate .try-candidate .ensures in
-    let kept = kept-read (entry .args .shape) (entry .args .depth) _ _ _ (laid .0) (laid .1) in
-    let from = from-regular _ _ _ _ _ _ _ _ _ _ kept (at-system .system .ensures) (at-eliminate .eliminate .ensures) in
-    (from (at-read-off .before .before .is-regular .ensures) (at-read-off .before .if1 .taken) _ (at-read-off .read-off .ensures) _ (tried .0), tried .1, tried .2)
+    let made = c .before .before .before .before .before .before in
+    let solved = made .before .before .before .before in
+    let regular = solved .before in
+    let eliminated = regular .before .before in
+    let built = eliminated .before in
+    let tried = made .try-candidate .ensures in
+    let from = from-regular _ _ _ _ _ _ _ _ _ _ (kept (laid-out built)) (built .system .ensures) (eliminated .eliminate .ensures) in
+    let e = from (regular .before .is-regular .ensures) (regular .if1 .taken) _ (solved .read-off .ensures) _ (tried .0) in
+    (e, tried .1, tried .2)
 
 pub extrapolate-spec : {M : Type 1} → statement M
 extrapolate-spec =

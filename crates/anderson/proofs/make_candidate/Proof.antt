@@ -1,4 +1,5 @@
 -- `make_candidate`: the weights are put by, what is kept is read beside them, and the fit is put behind them. Assumes nothing.
+use Prim.Native.Nat.{_+_, _*_, _≤_}
 use native.Mathlib.Omega.{arith}
 use Rattle.doubles.proofs.Laws.Parts.{part-long}
 use Rattle.anderson.proofs.Laws.Scratch.{kept-long}
@@ -8,6 +9,21 @@ use borrow.Author.Needs.{needs}
 use Rattle.anderson.proofs.make_candidate.Statement.{statement}
 use Rattle.anderson.proofs.make_candidate.Tie as tie
 
+-- ---- the places: the parts laid out, the weights put by, and the candidate written
+abbrev entry : tie.After-lay-out → tie.Start
+entry c = c .before .before .before .before .before .before .before
+
+abbrev laid-out : tie.After-copy → tie.After-lay-out
+laid-out c = c .before .before .before
+
+abbrev put-by : tie.After-write-candidate → tie.After-copy
+put-by c = c .before .before .before .before .before .before
+
+-- the weights put by lie low enough for their bytes to be counted
+small : (c : tie.After-copy) → let a = entry (laid-out c) .args in (2 * a .depth + 4) * a .shape .p ≤ 196608
+small c = let sized = entry (laid-out c) .pre in places-small _ _ (sized .shallow) (sized .features)
+
+-- ---- the needs
 lay-out-requires : tie.Need-lay-out-requires
 lay-out-requires c κs = search needs
 
@@ -39,24 +55,19 @@ part-write-candidate-end : tie.Need-part-write-candidate-end
 part-write-candidate-end c = search needs
 
 write-candidate-requires : tie.Need-write-candidate-requires
-write-candidate-requires c κs = (
-  c .before .before .before .before .before .before .before .before .before .before .before .before .before .before .before .pre .below,
-  search needs,
-  c .before .before .before .before .before .before .before .before .before .before .before .before .before .before .before .pre .few,
-  c .before .before .before .before .before .before .before .before .before .before .before .before .before .before .before .pre .shallow,
-  kept-long
-      (c .before .before .before .before .before .before .before .before .before .before .before .before .before .before .before .args .shape)
-      (c .before .before .before .before .before .before .before .before .before .before .before .before .before .before .before .args .depth)
-      _ _ _ (c .before .before .before .before .before .before .before .before .lay-out .ensures .1) (search needs),
-)
+write-candidate-requires c κs =
+    let laid = laid-out (c .before .before .before .before .before) in
+    let sized = entry laid .pre in
+    let a = entry laid .args in (
+      sized .below,
+      search needs,
+      sized .few,
+      sized .shallow,
+      kept-long (a .shape) (a .depth) _ _ _ (laid .lay-out .ensures .1) (search needs),
+    )
 
 mul-extrapolated-fit : tie.Need-mul-extrapolated-fit
-mul-extrapolated-fit c =
-    let h = places-small _ _
-    (c .before .before .before .before .before .before .before .before .before .before .before .before .before .before .before .before .before .before .before .pre .shallow)
-    (c .before .before .before .before .before .before .before .before .before .before .before .before .before .before .before .before .before .before .before .pre .features)
-    in
-    omega arith
+mul-extrapolated-fit c = let h = small (put-by (c .before .before .before)) in omega arith
 
 sub-extrapolated-fit : tie.Need-sub-extrapolated-fit
 sub-extrapolated-fit c = search needs
@@ -68,14 +79,10 @@ part-extrapolated-fit-end : tie.Need-part-extrapolated-fit-end
 part-extrapolated-fit-end c = search needs
 
 extrapolated-fit-requires : tie.Need-extrapolated-fit-requires
-extrapolated-fit-requires c κs = (
-  c .before .before .before .before .before .before .before .before .before .before .before .before .before .before .before .before .before .before .before .before .pre .below,
-  c .before .before .before .before .before .before .before .before .before .before .before .before .before .before .before .before .before .before .before .before .pre .whole,
-  search needs,
-  part-long _ _ _ _
-      (c .before .before .before .before .before .before .before .before .before .before .before .before .before .lay-out .ensures .4)
-      (search needs),
-)
+extrapolated-fit-requires c κs =
+    let laid = laid-out (put-by (c .before .before .before .before)) in
+    let sized = entry laid .pre in
+    (sized .below, sized .whole, search needs, part-long _ _ _ _ (laid .lay-out .ensures .4) (search needs))
 
 same-length : tie.Need-same-length
 same-length c = search needs
@@ -85,14 +92,14 @@ same-length-2 c = search needs
 
 returns : tie.Need-returns
 returns c =
-    let at-copy = c .before .before .before .before .before .before .before .before .before .before .before .before .before in
-    let at-lay-out = at-copy .before .before .before in
-    let entry = at-lay-out .before .before .before .before .before .before .before in
+    let written = c .before .before .before .before .before .before .before in
+    let by = put-by written in
+    let laid = laid-out by in
     made _ _ _ _ _ _ _ _ _ _ _ _ _ _ _ _ _
-    (entry .pre)
-    (at-lay-out .lay-out .ensures)
-    (at-copy .copy .ensures)
-    (c .before .before .before .before .before .before .before .write-candidate .ensures)
+    (entry laid .pre)
+    (laid .lay-out .ensures)
+    (by .copy .ensures)
+    (written .write-candidate .ensures)
     (c .before .before .extrapolated-fit .ensures)
     (c .before .before .extrapolated-fit .kept .1 .1 .1 .1 .1 .1 .0)
 

@@ -1,4 +1,5 @@
 -- `try_candidate`: the candidate and its fit are made, and the choice reads both points. Assumes nothing.
+use Prim.Native.Nat.{_+_, _*_, _≤_}
 use native.Mathlib.Omega.{arith}
 use Rattle.anderson.proofs.Laws.System.{places-small}
 use Rattle.anderson.proofs.Laws.Step.{choose-asks, chosen-here}
@@ -6,6 +7,18 @@ use borrow.Author.Needs.{needs}
 use Rattle.anderson.proofs.try_candidate.Statement.{statement}
 use Rattle.anderson.proofs.try_candidate.Tie as tie
 
+-- ---- the places: the parts laid out, and the candidate made
+abbrev entry : tie.After-lay-out → tie.Start
+entry c = c .before .before .before .before .before .before .before .before .before
+
+abbrev laid-out : tie.After-make-candidate → tie.After-lay-out
+laid-out c = c .before .before .before .before .before .before .before
+
+-- the weights put by lie low enough for their bytes to be counted
+small : (c : tie.After-make-candidate) → let a = entry (laid-out c) .args in (2 * a .depth + 4) * a .shape .p ≤ 196608
+small c = let sized = entry (laid-out c) .pre .sized in places-small _ _ (sized .shallow) (sized .features)
+
+-- ---- the needs
 lay-out-requires : tie.Need-lay-out-requires
 lay-out-requires c κs = search needs
 
@@ -19,12 +32,7 @@ make-candidate-requires : tie.Need-make-candidate-requires
 make-candidate-requires c κs = search needs
 
 mul-choose : tie.Need-mul-choose
-mul-choose c =
-    let h = places-small _ _
-    (c .before .before .before .before .before .before .before .before .before .before .before .before .before .before .before .before .before .before .before .before .pre .sized .shallow)
-    (c .before .before .before .before .before .before .before .before .before .before .before .before .before .before .before .before .before .before .before .before .pre .sized .features)
-    in
-    omega arith
+mul-choose c = let h = small (c .before .before .before .before) in omega arith
 
 sub-choose : tie.Need-sub-choose
 sub-choose c = search needs
@@ -36,12 +44,7 @@ part-choose-end : tie.Need-part-choose-end
 part-choose-end c = search needs
 
 mul-choose-2 : tie.Need-mul-choose-2
-mul-choose-2 c =
-    let h = places-small _ _
-    (c .before .before .before .before .before .before .before .before .before .before .before .before .before .before .before .before .before .before .before .before .before .before .pre .sized .shallow)
-    (c .before .before .before .before .before .before .before .before .before .before .before .before .before .before .before .before .before .before .before .before .before .before .pre .sized .features)
-    in
-    omega arith
+mul-choose-2 c = let h = small (c .before .before .before .before .before .before) in omega arith
 
 sub-choose-2 : tie.Need-sub-choose-2
 sub-choose-2 c = search needs
@@ -50,25 +53,15 @@ part-choose-start-2 : tie.Need-part-choose-start-2
 part-choose-start-2 c = search needs
 
 part-choose-end-2 : tie.Need-part-choose-end-2
-part-choose-end-2 c =
-    search (
-      needs,
-      c .before .before .before .before .before .before .before .before .before .before .before .before .before .before .before .before .before .before .before .before .before .before .pre .sized .room,
-    )
+part-choose-end-2 c = search (needs, entry (laid-out (c .before .before .before .before .before .before)) .pre .sized .room)
 
 choose-requires : tie.Need-choose-requires
 choose-requires c κs =
-    let at-make-candidate = c .before .before .before .before .before .before .before .before .before in
-    let at-lay-out = at-make-candidate .before .before .before .before .before .before .before in
-    let entry = at-lay-out .before .before .before .before .before .before .before .before .before in
-    choose-asks _ _ _ _ _ _
-    (at-make-candidate .make-candidate .last .1 .1 .1 .1 .1 .1 .1 .0)
-    (at-make-candidate .make-candidate .last .1 .1 .1 .1 .1 .1 .1 .1 .0)
-    _ _ _ _ _
-    (entry .pre)
-    (at-lay-out .lay-out .ensures)
-    (at-make-candidate .make-candidate .kept .1 .1 .1 .1 .1 .1 .1 .0)
-    (at-make-candidate .make-candidate .kept .1 .1 .1 .1 .1 .1 .1 .1 .0)
+    let made = c .before .before .before .before .before .before .before .before .before in
+    let l = made .make-candidate .last .1 .1 .1 .1 .1 .1 .1 in
+    let kept = made .make-candidate .kept .1 .1 .1 .1 .1 .1 .1 in
+    let laid = laid-out made in
+    choose-asks _ _ _ _ _ _ (l .0) (l .1 .0) _ _ _ _ _ (entry laid .pre) (laid .lay-out .ensures) (kept .0) (kept .1 .0)
 
 same-length : tie.Need-same-length
 same-length c = search needs
@@ -81,18 +74,16 @@ same-length-3 c = search needs
 
 returns : tie.Need-returns
 returns c =
-    let at-make-candidate =
-    c .before .before .before .before .before .before .before .before .before .before .before .before .before .before in
-    let at-objective = at-make-candidate .before .before .before in
-    let at-coefficients = at-objective .before .before .before in
-    let at-lay-out = at-coefficients .before in
-    let entry = at-lay-out .before .before .before .before .before .before .before .before .before in
+    let made = c .before .before .before .before .before .before .before .before .before .before .before .before .before .before in
+    let valued = made .before .before .before in
+    let solved = valued .before .before .before in
+    let laid = laid-out made in
     chosen-here _ _ _ _ _ _ _ _ _ _ _ _ _ _ _ _ _ _
-    (entry .pre)
-    (at-lay-out .lay-out .ensures)
-    (at-make-candidate .make-candidate .ensures)
-    (at-objective .objective .ensures)
-    (at-coefficients .coefficients .ensures)
+    (entry laid .pre)
+    (laid .lay-out .ensures)
+    (made .make-candidate .ensures)
+    (valued .objective .ensures)
+    (solved .coefficients .ensures)
     (c .before .before .before .before .choose .ensures)
 
 pub try-candidate-spec : {M : Type 1} → statement M

@@ -14,15 +14,21 @@ use Rattle.columns.proofs.csc_dot.Statement.{statement}
 use Rattle.columns.proofs.csc_dot.Tie as tie
 
 abbrev Inv-loop : tie.InvT-loop
-Inv-loop starts rows values v j start end many s₀ k₀ s k = (k ≤ many) × (start + many ≤ length values) × (length rows ≡ length values) × (s ≡ total (λ i. at values (start + i) ⊗ at v (getD rows (start + i) 0)) k)
+Inv-loop starts rows values v j start end many s₀ k₀ s k =
+    (k ≤ many) × (start + many ≤ length values) × (length rows ≡ length values)
+    × (s ≡ total (λ i. at values (start + i) ⊗ at v (getD rows (start + i) 0)) k)
 
 abbrev μ-loop : tie.MeasureT-loop
 μ-loop starts rows values v j start end many s₀ k₀ s k = many - k
 
-below : (c : tie.In-loop Inv-loop μ-loop) → getD (now (c .before .before .before .before .before .before .before .before .args .rows)) (getD (now (c .before .before .before .before .before .before .before .before .args .starts)) (c .before .before .before .before .before .before .before .before .args .feature .0) 0 + c .before .loop .k) 0 < c .before .before .before .before .before .before .before .before .args .shape .n
+abbrev entry : tie.At-loop Inv-loop μ-loop → tie.Start Inv-loop μ-loop
+entry c = c .before .before .before .before .before .before .before
+
+below : (c : tie.In-loop Inv-loop μ-loop) → let a = entry (c .before) .args in
+    getD (now (a .rows)) (getD (now (a .starts)) (a .feature .0) 0 + c .before .loop .k) 0 < a .shape .n
 below c =
-    let entry = c .before .before .before .before .before .before .before .before in
-    row-below (entry .pre .1) (entry .args .feature .0) (entry .pre .0) (c .before .loop .k) (c .loop-test .taken)
+    let start = entry (c .before) in
+    row-below (start .pre .1) (start .args .feature .0) (start .pre .0) (c .before .loop .k) (c .loop-test .taken)
 
 mul-start : tie.Need-mul-start Inv-loop μ-loop
 mul-start c = let e = c .before .before .before .before .pre .1 .columns in omega arith
@@ -46,17 +52,12 @@ cast-end : tie.Need-cast-end Inv-loop μ-loop
 cast-end c = omega (arith, c .shared-slice-known6 .given (c .before .before .before .before .before .before .args .feature .0 + 1))
 
 sub-many : tie.Need-sub-many Inv-loop μ-loop
-sub-many c =
-    let entry = c .before .before .before .before .before .before in
-    entry .pre .1 .rising .up _ (entry .pre .0)
+sub-many c = let start = c .before .before .before .before .before .before in start .pre .1 .rising .up _ (start .pre .0)
 
 loop-holds : tie.Need-loop-holds Inv-loop μ-loop
-loop-holds c = (
-  search needs,
-  column-end (c .before .before .before .before .before .before .pre .1) _ (c .before .before .before .before .before .before .pre .0),
-  c .before .before .before .before .before .before .pre .1 .entries,
-  steps-none _ _,
-)
+loop-holds c =
+    let start = c .before .before .before .before .before .before in
+    (search needs, column-end (start .pre .1) _ (start .pre .0), start .pre .1 .entries, steps-none _ _)
 
 add-e : tie.Need-add-e Inv-loop μ-loop
 add-e c = search needs

@@ -21,12 +21,14 @@ Inv-loop starts rows values fit j start end many k₀ k = (k ≤ many) × (start
 abbrev μ-loop : tie.MeasureT-loop
 μ-loop starts rows values fit j start end many k₀ k = many - k
 
-below : (c : tie.After-sample-of Inv-loop μ-loop)
-    → c .sample-of .result .0 < c .before .before .before .before .before .before .before .before .before .args .shape .n
+abbrev entry : tie.At-loop Inv-loop μ-loop → tie.Start Inv-loop μ-loop
+entry c = c .before .before .before .before .before .before .before
+
+below : (c : tie.After-sample-of Inv-loop μ-loop) → c .sample-of .result .0 < entry (c .before .before) .args .shape .n
 below c =
-    let entry = c .before .before .before .before .before .before .before .before .before in
-    let e = row-below (entry .pre .1) (entry .args .feature .0) (entry .pre .0) (c .before .before .loop .k) (c .before .loop-test .taken)
-    in
+    let turn = c .before .before in
+    let start = entry turn in
+    let e = row-below (start .pre .1) (start .args .feature .0) (start .pre .0) (turn .loop .k) (c .before .loop-test .taken) in
     let q = c .sample-of .ensures in
     omega arith
 
@@ -52,12 +54,12 @@ cast-end : tie.Need-cast-end Inv-loop μ-loop
 cast-end c = omega (arith, c .shared-slice-known6 .given (c .before .before .before .before .before .before .args .feature .0 + 1))
 
 sub-many : tie.Need-sub-many Inv-loop μ-loop
-sub-many c = let entry = c .before .before .before .before .before .before in entry .pre .1 .rising .up _ (entry .pre .0)
+sub-many c = let start = c .before .before .before .before .before .before in start .pre .1 .rising .up _ (start .pre .0)
 
 loop-holds : tie.Need-loop-holds Inv-loop μ-loop
 loop-holds c =
-    let entry = c .before .before .before .before .before .before in
-    (search needs, column-end (entry .pre .1) _ (entry .pre .0), entry .pre .1 .entries, steps-none _ _)
+    let start = c .before .before .before .before .before .before in
+    (search needs, column-end (start .pre .1) _ (start .pre .0), start .pre .1 .entries, steps-none _ _)
 
 add-sample-of : tie.Need-add-sample-of Inv-loop μ-loop
 add-sample-of c = search needs
@@ -74,10 +76,11 @@ is-finite-requires c κs = search needs
 returns : tie.Need-returns Inv-loop μ-loop
 unfolding finiteAt csc
 returns c =
-    all-broken _ _ _ (c .before .before .before .before .before .loop .inv .3)
-    (rw (← c .before .before .before .sample-of .ensures, ← c .before .before .reading .ensures, ← c .before .is-finite .ensures)
-    (c .if1 .left))
-    (c .before .before .before .before .loop-test .taken)
+    let sampled = c .before .before .before in
+    let turn = sampled .before .before in
+    let broken = all-broken _ _ _ (turn .loop .inv .3) in
+    broken (rw (← sampled .sample-of .ensures, ← c .before .before .reading .ensures, ← c .before .is-finite .ensures) (c .if1 .left))
+    (sampled .before .loop-test .taken)
 
 add-k : tie.Need-add-k Inv-loop μ-loop
 add-k c = search needs

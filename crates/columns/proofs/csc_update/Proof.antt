@@ -22,12 +22,14 @@ Inv-loop starts rows values d fit₀ j start end many k₀ fit k = (k ≤ many) 
 abbrev μ-loop : tie.MeasureT-loop
 μ-loop starts rows values d fit₀ j start end many k₀ fit k = many - k
 
-below : (c : tie.After-sample-of Inv-loop μ-loop)
-    → c .sample-of .result .0 < c .before .before .before .before .before .before .before .before .before .args .shape .n
+abbrev entry : tie.At-loop Inv-loop μ-loop → tie.Start Inv-loop μ-loop
+entry c = c .before .before .before .before .before .before .before
+
+below : (c : tie.After-sample-of Inv-loop μ-loop) → c .sample-of .result .0 < entry (c .before .before) .args .shape .n
 below c =
-    let entry = c .before .before .before .before .before .before .before .before .before in
-    let e = row-below (entry .pre .1) (entry .args .feature .0) (entry .pre .0) (c .before .before .loop .k) (c .before .loop-test .taken)
-    in
+    let turn = c .before .before in
+    let start = entry turn in
+    let e = row-below (start .pre .1) (start .args .feature .0) (start .pre .0) (turn .loop .k) (c .before .loop-test .taken) in
     let q = c .sample-of .ensures in
     omega arith
 
@@ -53,12 +55,12 @@ cast-end : tie.Need-cast-end Inv-loop μ-loop
 cast-end c = omega (arith, c .shared-slice-known5 .given (c .before .before .before .before .before .before .args .feature .0 + 1))
 
 sub-count : tie.Need-sub-count Inv-loop μ-loop
-sub-count c = let entry = c .before .before .before .before .before .before in entry .pre .1 .rising .up _ (entry .pre .0)
+sub-count c = let start = c .before .before .before .before .before .before in start .pre .1 .rising .up _ (start .pre .0)
 
 loop-holds : tie.Need-loop-holds Inv-loop μ-loop
 loop-holds c =
-    let entry = c .before .before .before .before .before .before in
-    (search needs, column-end (entry .pre .1) _ (entry .pre .0), entry .pre .1 .entries, search needs, steps-none _ _)
+    let start = c .before .before .before .before .before .before in
+    (search needs, column-end (start .pre .1) _ (start .pre .0), start .pre .1 .entries, search needs, steps-none _ _)
 
 add-e : tie.Need-add-e Inv-loop μ-loop
 add-e c = search needs
@@ -85,16 +87,16 @@ loop-less : tie.Need-loop-less Inv-loop μ-loop
 loop-less c = search needs
 
 loop-again : tie.Need-loop-again Inv-loop μ-loop
-loop-again c = (
-  search needs,
-  search needs,
-  search needs,
-  search needs,
-  steps-turn _ _ _ _ _ (c .before .before .before .before .before .before .before .before .before .loop .inv .4)
-      (c .before .before .set-reading .ensures
-      ∙ rw
-      (c .before .before .before .before .reading .ensures, c .before .before .before .before .before .before .before .sample-of .ensures)),
-)
+loop-again c =
+    let read = c .before .before .before .before in
+    let sampled = read .before .before .before in
+    let before = sampled .before .before .loop .inv .4 in (
+      search needs,
+      search needs,
+      search needs,
+      search needs,
+      steps-turn _ _ _ _ _ before (c .before .before .set-reading .ensures ∙ rw (read .reading .ensures, sampled .sample-of .ensures)),
+    )
 
 same-length : tie.Need-same-length Inv-loop μ-loop
 same-length c = search needs

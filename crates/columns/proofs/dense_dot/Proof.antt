@@ -19,7 +19,8 @@ Inv-loop values v n p j s₀ i₀ s i = (i ≤ n) × (j < p) × (n * p ≤ lengt
 abbrev μ-loop : tie.MeasureT-loop
 μ-loop values v n p j s₀ i₀ s i = n - i
 
-inside : (c : tie.In-loop Inv-loop μ-loop) → c .before .loop .i * c .before .before .args .shape .p + c .before .before .args .feature .0 < length (now (c .before .before .args .values))
+inside : (c : tie.In-loop Inv-loop μ-loop) → let a = c .before .before .args in
+    c .before .loop .i * a .shape .p + a .feature .0 < length (now (a .values))
 inside c = cell _ _ _ _ _ (c .loop-test .taken) (c .before .loop .inv .1) (c .before .loop .inv .2)
 
 loop-holds : tie.Need-loop-holds Inv-loop μ-loop

@@ -21,10 +21,15 @@ Inv-loop values ws w fit₀ i₀ fit i = (i ≤ length fit₀) × (length fit �
 abbrev μ-loop : tie.MeasureT-loop
 μ-loop values ws w fit₀ i₀ fit i = length fit₀ - i
 
-inside : (c : tie.In-loop Inv-loop μ-loop) → c .before .loop .i * length (now (c .before .before .before .before .before .before .args .w)) + length (now (c .before .before .before .before .before .before .args .w)) ≤ length (now (c .before .before .before .before .before .before .args .values))
+abbrev entry : tie.At-loop Inv-loop μ-loop → tie.Start Inv-loop μ-loop
+entry c = c .before .before .before .before .before
+
+inside : (c : tie.In-loop Inv-loop μ-loop) → let a = entry (c .before) .args in
+    c .before .loop .i * length (now (a .w)) + length (now (a .w)) ≤ length (now (a .values))
 inside c =
-    let h : c .before .loop .i < length (now (c .before .before .before .before .before .before .args .fit)) = omega arith in
-    row-inside _ _ _ _ _ h refl (c .before .before .before .before .before .before .pre .1)
+    let start = entry (c .before) in
+    let h : c .before .loop .i < length (now (start .args .fit)) = omega arith in
+    row-inside _ _ _ _ _ h refl (start .pre .1)
 
 loop-holds : tie.Need-loop-holds Inv-loop μ-loop
 loop-holds c = (search needs, search needs, tab-none _ _)
@@ -33,7 +38,7 @@ mul-row-fit : tie.Need-mul-row-fit Inv-loop μ-loop
 mul-row-fit c = omega (arith, inside c)
 
 row-fit-requires : tie.Need-row-fit-requires Inv-loop μ-loop
-row-fit-requires c κs = (c .before .before .before .before .before .before .pre .0, inside c)
+row-fit-requires c κs = (entry (c .before) .pre .0, inside c)
 
 mul-fit : tie.Need-mul-fit Inv-loop μ-loop
 mul-fit c = search needs

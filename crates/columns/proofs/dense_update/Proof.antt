@@ -14,12 +14,15 @@ use Rattle.columns.proofs.dense_update.Statement.{statement}
 use Rattle.columns.proofs.dense_update.Tie as tie
 
 abbrev Inv-loop : tie.InvT-loop
-Inv-loop values d fit₀ n p j i₀ fit i = (i ≤ n) × (j < p) × (n * p ≤ length values) × (n ≤ length fit₀) × (length fit ≡ length fit₀) × (fit ≡ steps (λ k f. set f k (at f k ⊕ d ⊗ at values (k * p + j))) i fit₀)
+Inv-loop values d fit₀ n p j i₀ fit i =
+    (i ≤ n) × (j < p) × (n * p ≤ length values) × (n ≤ length fit₀) × (length fit ≡ length fit₀)
+    × (fit ≡ steps (λ k f. set f k (at f k ⊕ d ⊗ at values (k * p + j))) i fit₀)
 
 abbrev μ-loop : tie.MeasureT-loop
 μ-loop values d fit₀ n p j i₀ fit i = n - i
 
-inside : (c : tie.In-loop Inv-loop μ-loop) → c .before .loop .i * c .before .before .args .shape .p + c .before .before .args .feature .0 < length (now (c .before .before .args .values))
+inside : (c : tie.In-loop Inv-loop μ-loop) → let a = c .before .before .args in
+    c .before .loop .i * a .shape .p + a .feature .0 < length (now (a .values))
 inside c = cell _ _ _ _ _ (c .loop-test .taken) (c .before .loop .inv .1) (c .before .loop .inv .2)
 
 loop-holds : tie.Need-loop-holds Inv-loop μ-loop

@@ -2,6 +2,7 @@
 use Rattle.inner_loops.proofs.Laws.Ready.{step-ready}
 use Rattle.inner_loops.proofs.Laws.Epochs.{taken-few, accelerated-on, accelerated-off, twice-of-thrice}
 use mathlib.Core.Path.{refl}
+use Prim.Native.Nat.{_≤_}
 use native.Mathlib.Omega.{arith}
 use native.Mathlib.Nat.{le-refl}
 use denote.Ref.{now}
@@ -9,20 +10,31 @@ use borrow.Author.Needs.{needs}
 use Rattle.inner_loops.proofs.accelerate.Statement.{statement}
 use Rattle.inner_loops.proofs.accelerate.Tie as tie
 
+-- ---- the places: the extrapolation is on, and its step is done
+abbrev entry : tie.Then1 → tie.Start
+entry c = c .before .before .before .before .before .before .before .before .before
+
+abbrev on : tie.After-anderson-accel → tie.Then1
+on c = c .before .before .before .before
+
+-- a step takes one point at most
+few : (c : tie.After-anderson-accel) → c .anderson-accel .result ≤ 1
+few c = taken-few _ _ _ _ _ _ _ _ _ _ (c .anderson-accel .ensures .0)
+
+-- ---- the needs
 anderson-accel-requires : tie.Need-anderson-accel-requires
 anderson-accel-requires c κs =
-    let entry = c .before .before .before .before .before .before .before .before .before .before .before .before in
-    step-ready (entry .pre .0) (entry .pre .1) (c .before .before .before .if1 .taken)
+    let is-on = c .before .before .before in
+    step-ready (entry is-on .pre .0) (entry is-on .pre .1) (is-on .if1 .taken)
 
 add-t22 : tie.Need-add-t22
 add-t22 c = search needs
 
 add-t23 : tie.Need-add-t23
 add-t23 c =
-    let h = taken-few _ _ _ _ _ _ _ _ _ _ (c .before .before .before .before .before .before .before .before .anderson-accel .ensures .0) in
-    let q =
-    c .before .before .before .before .before .before .before .before .before .before .before .before .before .before .before .before .before .before .before .before .before .pre .2 .extrapolations
-    in
+    let step = c .before .before .before .before .before .before .before .before in
+    let taken = few step in
+    let counted = entry (on step) .pre .2 .extrapolations in
     omega arith
 
 same-length : tie.Need-same-length
@@ -36,17 +48,12 @@ same-length-3 c = search needs
 
 returns : tie.Need-returns
 returns c =
-    let h = taken-few _ _ _ _ _ _ _ _ _ _ (c .before .before .before .before .before .before .before .before .anderson-accel .ensures .0) in (
-      accelerated-on _ _ _ _ _ _ _ _ _ _ _ _ _ _
-          (c .before .before .before .before .before .before .before .before .before .before .before .before .if1 .taken)
-          (c .before .before .before .before .before .before .before .before .anderson-accel .ensures .0)
-          (c .before .before .before .before .before .before .before .before .anderson-accel .ensures .1),
-      twice-of-thrice
-          (c .before .before .before .before .before .before .before .before .before .before .before .before .before .before .before .before .before .before .before .before .before .args .shape .p)
-          (c .before .before .before .before .before .before .before .before .anderson-accel .last .1 .1 .1 .1 .1 .1 .1 .1 .1 .1 .1 .0)
-          (now
-          (c .before .before .before .before .before .before .before .before .before .before .before .before .before .before .before .before .before .before .before .before .before .args .scratch))
-          (c .before .before .before .before .before .before .before .before .anderson-accel .ensures .2),
+    let step = c .before .before .before .before .before .before .before .before in
+    let e = step .anderson-accel .ensures in
+    let taken = few step in
+    let a = entry (on step) .args in (
+      accelerated-on _ _ _ _ _ _ _ _ _ _ _ _ _ _ (on step .if1 .taken) (e .0) (e .1),
+      twice-of-thrice (a .shape .p) (step .anderson-accel .last .1 .1 .1 .1 .1 .1 .1 .1 .1 .1 .1 .0) (now (a .scratch)) (e .2),
       le-refl _,
       omega arith,
     )

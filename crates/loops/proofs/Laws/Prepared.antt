@@ -52,7 +52,8 @@ module _ {g : Given} {S : Settings} {w fit scratch : List Float} (R : Ready g S 
     prepared-first = take-at q (drop (g .shape .p + g .shape .p) z) (g .shape .p + g .shape .p) q-long
 
     -- no row is kept yet
-    rows-zero : S .extrapolate ≡ true → keptIn (g .shape) (S .depth) (q ++ drop (g .shape .p + g .shape .p) z) ≡ tab (λ i. #0) (suc (S .depth) * g .shape .p)
+    rows-zero : S .extrapolate ≡ true
+        → keptIn (g .shape) (S .depth) (q ++ drop (g .shape .p + g .shape .p) z) ≡ tab (λ i. #0) (suc (S .depth) * g .shape .p)
     unfolding keptIn
     rows-zero on =
         let K = S .depth in
@@ -61,8 +62,9 @@ module _ {g : Given} {S : Settings} {w fit scratch : List Float} (R : Ready g S 
         let n : length scratch ≡ (2 * K + 5) * p + g .shape .n = R .room ∙ room-on (g .shape) S on in
         let r = room-split K p (g .shape .n) in
         let b = old-behind K p in
+        let behind = drop-append-add q (drop (p + p) z) p ∙ drop-drop p (p + p) z ∙ ap (drop (p + p + p)) ez ∙ same-drop #0 (p + p + p) (length scratch) in
         ap (λ (i : ℕ). take (suc K * p) (drop i (q ++ drop (p + p) z))) a
-        ∙ ap (take (suc K * p)) (drop-append-add q (drop (p + p) z) p ∙ drop-drop p (p + p) z ∙ ap (drop (p + p + p)) ez ∙ same-drop #0 (p + p + p) (length scratch))
+        ∙ ap (take (suc K * p)) behind
         ∙ same-take #0 (suc K * p) (length scratch - (p + p + p)) (omega arith)
 
     pub prepared-kept : keptHere (g .shape) S (q ++ drop (g .shape .p + g .shape .p) z) ≡ nothingKept (g .shape) S
@@ -75,8 +77,12 @@ module _ {g : Given} {S : Settings} {w fit scratch : List Float} (R : Ready g S 
         go false off = steps-none _ _
 
     -- ---- whether all columns are usable
-    module _ (eq : q ≡ prepared (designOf g) (g .targets)) (r : Bool)
-        (er : r ≡ all (λ j. usable (at (take (g .shape .p + g .shape .p) (q ++ drop (g .shape .p + g .shape .p) z)) j) (at (take (g .shape .p + g .shape .p) (q ++ drop (g .shape .p + g .shape .p) z)) (g .shape .p + j))) (g .shape .p)) where
+    abbrev columns-usable : Bool
+    columns-usable =
+        let numbers = take (g .shape .p + g .shape .p) (q ++ drop (g .shape .p + g .shape .p) z) in
+        all (λ j. usable (at numbers j) (at numbers (g .shape .p + j))) (g .shape .p)
+
+    module _ (eq : q ≡ prepared (designOf g) (g .targets)) (r : Bool) (er : r ≡ columns-usable) where
       by-usable : pick r (concluded (run (taskIn g (S .penalty) (q ++ drop (g .shape .p + g .shape .p) z)) (g .targets) S)) (givenUp 7 0) ≡ fitted g S
       unfolding fitted solved
       by-usable = rw (er, prepared-first, eq)

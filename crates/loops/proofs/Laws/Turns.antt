@@ -87,8 +87,8 @@ module _ (T : Task) (y : List Float) (S : Settings) (v : Float) (c : Totals) (w 
   module _ (d : Counts) where
     abbrev pub Shown : Type 0
     Shown =
-        outerStage (Outer'.Going (record { violation = v; iterations = c .iterations + 1; counts = d })) w' fit' kept' (setsOf (iteration T y S v (stateOf c w fit kept sets)))
-        ≡ iteration T y S v (stateOf c w fit kept sets)
+        let now = iteration T y S v (stateOf c w fit kept sets) in
+        outerStage (Outer'.Going (record { violation = v; iterations = c .iterations + 1; counts = d })) w' fit' kept' (setsOf now) ≡ now
 
     pub shown-going : r ≡ Inner'.Going d → Shown
     shown-going e = rw (iterated, e)
@@ -125,7 +125,10 @@ or-true true = refl
 or-true false = refl
 
 module _ (T : Task) (w fit l : List Float) (v : Float) (m : List Float) (e : going (record { largest = v; scratch = m }) ≡ measured T w fit l) where
-  found : (allKnown T w fit ≡ true) × _≡_ {A = Measured} (record { largest = v; scratch = m }) (record { largest = worst T w fit; scratch = put l (T .p + T .p) (violations T w fit) })
+  abbrev is : Measured
+  is = record { largest = worst T w fit; scratch = put l (T .p + T .p) (violations T w fit) }
+
+  found : (allKnown T w fit ≡ true) × _≡_ {A = Measured} (record { largest = v; scratch = m }) is
   unfolding measured
   found = picked (allKnown T w fit) _ _ e
 
@@ -146,7 +149,8 @@ module _ (T : Task) (y : List Float) (S : Settings) (t : ℕ) (c : Totals) (w fi
   -- the check ends the run at v, or an iteration follows
   module _ (v : Float) (m : List Float) (e : going (record { largest = v; scratch = m }) ≡ measured T w fit l) where
     by-last : turn T y S t (stateOf c w fit kept sets)
-        ≡ pick (le v (S .tolerance) or eqb t (S .iterations)) (stopped (stateOf (atViolation v c) w fit kept sets)) (iteration T y S v (stateOf c w fit kept sets))
+        ≡ pick (le v (S .tolerance) or eqb t (S .iterations)) (stopped (stateOf (atViolation v c) w fit kept sets))
+        (iteration T y S v (stateOf c w fit kept sets))
     unfolding turn
     by-last = rw (found T w fit l v m e .0, ← found-largest T w fit l v m e)
 
@@ -157,7 +161,8 @@ module _ (T : Task) (y : List Float) (S : Settings) (t : ℕ) (c : Totals) (w fi
     pub turn-ends : t ≡ S .iterations → turn T y S t (stateOf c w fit kept sets) ≡ stopped (stateOf (atViolation v c) w fit kept sets)
     turn-ends h = rw (eq-eqb t (S .iterations) h, or-true (le v (S .tolerance))) at by-last
 
-    pub turn-iterates : le v (S .tolerance) ≡ false → t < S .iterations → turn T y S t (stateOf c w fit kept sets) ≡ iteration T y S v (stateOf c w fit kept sets)
+    pub turn-iterates : le v (S .tolerance) ≡ false → t < S .iterations
+        → turn T y S t (stateOf c w fit kept sets) ≡ iteration T y S v (stateOf c w fit kept sets)
     unfolding _or_
     turn-iterates h l = rw (h, ne-eqb t (S .iterations) (λ q. omega (arith, q))) at by-last
 

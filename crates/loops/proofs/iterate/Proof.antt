@@ -1,8 +1,14 @@
 -- `iterate`: the set is built in the index places, and its epochs are run. Assumes nothing.
-use mathlib.Core.Path.{refl, sym, ap, _∙_}
+use mathlib.Core.Path.{_≡_, refl, sym, ap, _∙_}
+use Prim.Native.Nat.{_+_, _-_, _≤_}
 use native.Mathlib.Omega.{arith}
 use native.Mathlib.Nat.{le-of-eq, le-trans}
+use lib.ListN.{length, take, drop}
 use lib.Seq.{length-take-le}
+use Rattle.designs.specs.Given.{given}
+use Rattle.runs.specs.Epoch.{Task, violations}
+use Rattle.runs.specs.Run.{chosenSet}
+use Rattle.anderson.specs.Places.{taskIn, pointOf}
 use Rattle.inner_loops.proofs.Laws.Ready.{room-for}
 use Rattle.loops.proofs.Laws.Turns.{start-most, set-built, set-most, set-features, part-violations, set-chosen, numbers-known}
 use Rattle.loops.proofs.Laws.Turns.{shown-going, shown-stopped, shown-bad, grown-by, grown-none}
@@ -14,6 +20,47 @@ use borrow.Author.Needs.{needs}
 use Rattle.loops.proofs.iterate.Statement.{statement}
 use Rattle.loops.proofs.iterate.Tie as tie
 
+-- ---- the places: the start size, the set built, and its epochs run, each from the one behind it
+abbrev entry : tie.After-start-size → tie.Start
+entry c = c .before .before .before .before .before .before .before .before .before .before .before
+
+abbrev sized : tie.After-construct-ws → tie.After-start-size
+sized c = c .before .before .before .before .before
+
+abbrev built : tie.After-run-epochs → tie.After-construct-ws
+built c = c .before .before .before .before .before .before .before .before
+
+abbrev task : tie.Start → Task
+task c =
+    let a = c .args in
+    taskIn (given (a .shape) (now (a .starts)) (now (a .rows)) (now (a .values)) (now (a .y))) (a .settings .penalty) (now (a .scratch))
+
+-- ---- what is known there: the third p places of the scratch are the violations
+measured : (c : tie.Start) → let p = c .args .shape .p in
+    take (p + p + p - (p + p)) (drop (p + p) (now (c .args .scratch))) ≡ violations (task c) (now (c .args .w)) (now (c .args .fit))
+measured c = part-violations (c .args .shape) (now (c .args .scratch)) ∙ c .pre .3
+
+-- the start size is at most the number of weights
+few : (c : tie.After-start-size) → c .start-size .result ≤ length (now (entry c .args .w))
+few c = start-most _ _ _ _ (c .start-size .ensures) (entry c .pre .0 .weights)
+
+-- the set lies in the index places
+inside : (c : tie.After-construct-ws) → c .construct-ws .result ≤ length (c .construct-ws .last .1 .1 .1 .0)
+inside c =
+    let start = entry (sized c) in
+    let places = c .construct-ws .kept .1 .1 .1 .0 ∙ start .pre .1 in
+    let most = set-most _ _ _ (few (sized c)) _ _ (c .construct-ws .ensures .0) (c .construct-ws .ensures .1) in
+    le-trans most (le-of-eq (start .pre .0 .weights ∙ sym places))
+
+-- it is the one that the definition chooses
+chosen : (c : tie.After-construct-ws) → let start = entry (sized c) in
+    take (c .construct-ws .result) (c .construct-ws .last .1 .1 .1 .0)
+    ≡ chosenSet (task start) (start .args .settings) (pointOf (now (start .args .w)) (now (start .args .fit)))
+chosen c =
+    let made = set-built _ _ _ (few (sized c)) _ _ (c .construct-ws .ensures .0) (c .construct-ws .ensures .1) in
+    set-chosen _ _ _ _ _ _ _ (sized c .start-size .ensures) (measured (entry (sized c))) made
+
+-- ---- the needs
 add-from : tie.Need-add-from
 add-from c = search needs
 
@@ -33,63 +80,34 @@ part-construct-ws-start : tie.Need-part-construct-ws-start
 part-construct-ws-start c = search needs
 
 part-construct-ws-end : tie.Need-part-construct-ws-end
-part-construct-ws-end c =
-    let entry = c .before .before .before .before .before .before .before .before .before .before .before .before in
-    room-for (entry .pre .0)
+part-construct-ws-end c = room-for (entry (c .before) .pre .0)
 
 construct-ws-requires : tie.Need-construct-ws-requires
 construct-ws-requires c κs =
-    let at-size = c .before .before .before .before in
-    let entry = at-size .before .before .before .before .before .before .before .before .before .before .before in
-    let ready = entry .pre .0 in
-    let start = start-most _ _ _ _ (at-size .start-size .ensures) (ready .weights) in
-    let read = part-violations (entry .args .shape) (now (entry .args .scratch)) ∙ entry .pre .3 in (
+    let start = entry (c .before .before .before .before) in
+    let ready = start .pre .0 in (
       part-long _ _ _ _ refl (room-for ready) ∙ sym (ready .weights),
       le-trans (le-of-eq (ready .weights)) (ready .features),
-      start,
-      entry .pre .1 ∙ sym (ready .weights),
-      numbers-known _ _ _ _ read (entry .pre .4) (ready .weights),
+      few (c .before .before .before .before),
+      start .pre .1 ∙ sym (ready .weights),
+      numbers-known _ _ _ _ (measured start) (start .pre .4) (ready .weights),
     )
 
 slice-reshare-prefix-ws : tie.Need-slice-reshare-prefix-ws
-slice-reshare-prefix-ws c =
-    let entry =
-    c .before .before .before .before .before .before .before .before .before .before .before .before .before .before .before .before .before .before
-    in
-    (le-trans
-    (set-most _ _ _
-    (start-most _ _ _ _ (c .before .before .before .before .before .before .before .start-size .ensures) (entry .pre .0 .weights)) _
-    _ (c .before .before .construct-ws .ensures .0) (c .before .before .construct-ws .ensures .1))
-    (le-of-eq (entry .pre .0 .weights ∙ sym (c .before .before .construct-ws .kept .1 .1 .1 .0 ∙ entry .pre .1))))
+slice-reshare-prefix-ws c = inside (c .before .before)
 
 slice-aggregate-ws : tie.Need-slice-aggregate-ws
-slice-aggregate-ws c =
-    let at-construct-ws = c .before .before .before in
-    let at-start-size = at-construct-ws .before .before .before .before .before in
-    let entry = at-start-size .before .before .before .before .before .before .before .before .before .before .before in
-    sym
-    (length-take-le _ _
-    (le-trans
-    (set-most _ _ _ (start-most _ _ _ _ (at-start-size .start-size .ensures) (entry .pre .0 .weights)) _ _
-    (at-construct-ws .construct-ws .ensures .0) (at-construct-ws .construct-ws .ensures .1))
-    (le-of-eq (entry .pre .0 .weights ∙ sym (at-construct-ws .construct-ws .kept .1 .1 .1 .0 ∙ entry .pre .1)))))
+slice-aggregate-ws c = sym (length-take-le _ _ (inside (c .before .before .before)))
 
 run-epochs-requires : tie.Need-run-epochs-requires
 run-epochs-requires c κs =
-    let a =
-    c .before .before .before .before .before .before .before .before .before .before .before .before .before .before .before .before .before .before .before .before .before .before .before .pre .2 .counts .epochs
-    in
-    let b =
-    c .before .before .before .before .before .before .before .before .before .before .before .before .before .before .before .before .before .before .before .before .before .before .before .pre .2 .counts .extrapolations
-    in (
-      c .before .before .before .before .before .before .before .before .before .before .before .before .before .before .before .before .before .before .before .before .before .before .before .pre .0,
-      set-features _ _ _
-          (start-most _ _ _ _
-          (c .before .before .before .before .before .before .before .before .before .before .before .before .start-size .ensures)
-          (c .before .before .before .before .before .before .before .before .before .before .before .before .before .before .before .before .before .before .before .before .before .before .before .pre .0 .weights))
-          _ _ (c .before .before .before .before .before .before .before .construct-ws .ensures .0)
-          (c .before .before .before .before .before .before .before .construct-ws .ensures .1) _
-          (c .before .before .before .before .before .before .before .before .before .before .before .before .before .before .before .before .before .before .before .before .before .before .before .pre .0 .weights),
+    let set = c .before .before .before .before .before .before .before in
+    let start = entry (sized set) in
+    let weights = start .pre .0 .weights in
+    let epochs = start .pre .2 .counts .epochs in
+    let extrapolations = start .pre .2 .counts .extrapolations in (
+      start .pre .0,
+      set-features _ _ _ (few (sized set)) _ _ (set .construct-ws .ensures .0) (set .construct-ws .ensures .1) _ weights,
       record { epochs = omega arith; extrapolations = omega arith },
     )
 
@@ -98,9 +116,8 @@ enum-known-c c = search needs
 
 one-more-requires : tie.Need-one-more-requires
 one-more-requires c κs =
-    let h =
-    c .before .before .before .before .before .before .before .before .before .before .before .before .before .before .before .before .before .before .before .before .before .before .before .before .before .before .before .before .before .before .before .before .before .pre .2 .iterations
-    in
+    let behind = c .before .before .before .before .before .before .before .before .before in
+    let iterations = entry (sized (built behind)) .pre .2 .iterations in
     omega arith
 
 enum-known-c-2 : tie.Need-enum-known-c-2
@@ -108,9 +125,8 @@ enum-known-c-2 c = search needs
 
 one-more-requires-2 : tie.Need-one-more-requires-2
 one-more-requires-2 c κs =
-    let h =
-    c .before .before .before .before .before .before .before .before .before .before .before .before .before .before .before .before .before .before .before .before .before .before .before .before .before .before .before .before .before .before .before .before .before .pre .2 .iterations
-    in
+    let behind = c .before .before .before .before .before .before .before .before .before in
+    let iterations = entry (sized (built behind)) .pre .2 .iterations in
     omega arith
 
 enum-told : tie.Need-enum-told
@@ -130,14 +146,15 @@ same-length-4 c = search needs
 
 returns : tie.Need-returns
 returns c =
-    let at-run-epochs = c .before .before .before .before .before .before .before .before .before .before in
-    let at-construct-ws = at-run-epochs .before .before .before .before .before .before .before .before in
-    let at-start-size = at-construct-ws .before .before .before .before .before in
-    let entry = at-start-size .before .before .before .before .before .before .before .before .before .before .before in (
-      (λ sets. rw (c .one-more .ensures) (shown-going _ _ _ _ _ _ _ _ _ (set-chosen _ _ _ _ _ _ _ (at-start-size .start-size .ensures) (part-violations (entry .args .shape) (now (entry .args .scratch)) ∙ entry .pre .3) (set-built _ _ _ (start-most _ _ _ _ (at-start-size .start-size .ensures) (entry .pre .0 .weights)) _ _ (at-construct-ws .construct-ws .ensures .0) (at-construct-ws .construct-ws .ensures .1))) _ _ _ _ (at-run-epochs .run-epochs .ensures .0) sets _ (c .before .before .c .given .1))),
-      at-run-epochs .run-epochs .ensures .1,
-      rw (c .one-more .ensures)
-          (grown-by (entry .args .totals) (entry .args .v) (at-run-epochs .run-epochs .result) _ (ap (λ (r : InnerStep). countsOf r (entry .args .totals .counts)) (c .before .before .c .given .1)) (at-run-epochs .run-epochs .ensures .2) (at-run-epochs .run-epochs .ensures .3)),
+    let behind = c .before .before .before .before .before .before .before .before .before .before in
+    let e = behind .run-epochs .ensures in
+    let a = entry (sized (built behind)) .args in
+    let is = c .before .before .c .given .1 in
+    let shown = shown-going _ _ _ _ _ _ _ _ _ (chosen (built behind)) _ _ _ _ (e .0) in
+    let counted = ap (λ (r : InnerStep). countsOf r (a .totals .counts)) is in (
+      (λ sets. rw (c .one-more .ensures) (shown sets _ is)),
+      e .1,
+      rw (c .one-more .ensures) (grown-by (a .totals) (a .v) (behind .run-epochs .result) _ counted (e .2) (e .3)),
     )
 
 same-length-5 : tie.Need-same-length-5
@@ -154,14 +171,15 @@ same-length-8 c = search needs
 
 returns-2 : tie.Need-returns-2
 returns-2 c =
-    let at-run-epochs = c .before .before .before .before .before .before .before .before .before .before in
-    let at-construct-ws = at-run-epochs .before .before .before .before .before .before .before .before in
-    let at-start-size = at-construct-ws .before .before .before .before .before in
-    let entry = at-start-size .before .before .before .before .before .before .before .before .before .before .before in (
-      (λ sets. rw (c .one-more2 .ensures) (shown-stopped _ _ _ _ _ _ _ _ _ (set-chosen _ _ _ _ _ _ _ (at-start-size .start-size .ensures) (part-violations (entry .args .shape) (now (entry .args .scratch)) ∙ entry .pre .3) (set-built _ _ _ (start-most _ _ _ _ (at-start-size .start-size .ensures) (entry .pre .0 .weights)) _ _ (at-construct-ws .construct-ws .ensures .0) (at-construct-ws .construct-ws .ensures .1))) _ _ _ _ (at-run-epochs .run-epochs .ensures .0) sets _ (c .before .before .c2 .given .1))),
-      at-run-epochs .run-epochs .ensures .1,
-      rw (c .one-more2 .ensures)
-          (grown-by (entry .args .totals) (entry .args .v) (at-run-epochs .run-epochs .result) _ (ap (λ (r : InnerStep). countsOf r (entry .args .totals .counts)) (c .before .before .c2 .given .1)) (at-run-epochs .run-epochs .ensures .2) (at-run-epochs .run-epochs .ensures .3)),
+    let behind = c .before .before .before .before .before .before .before .before .before .before in
+    let e = behind .run-epochs .ensures in
+    let a = entry (sized (built behind)) .args in
+    let is = c .before .before .c2 .given .1 in
+    let shown = shown-stopped _ _ _ _ _ _ _ _ _ (chosen (built behind)) _ _ _ _ (e .0) in
+    let counted = ap (λ (r : InnerStep). countsOf r (a .totals .counts)) is in (
+      (λ sets. rw (c .one-more2 .ensures) (shown sets _ is)),
+      e .1,
+      rw (c .one-more2 .ensures) (grown-by (a .totals) (a .v) (behind .run-epochs .result) _ counted (e .2) (e .3)),
     )
 
 same-length-9 : tie.Need-same-length-9
@@ -178,14 +196,9 @@ same-length-12 c = search needs
 
 returns-3 : tie.Need-returns-3
 returns-3 c =
-    let at-run-epochs = c .before .before .before .before .before .before .before .before in
-    let at-construct-ws = at-run-epochs .before .before .before .before .before .before .before .before in
-    let at-start-size = at-construct-ws .before .before .before .before .before in
-    let entry = at-start-size .before .before .before .before .before .before .before .before .before .before .before in (
-      (λ sets. shown-bad _ _ _ _ _ _ _ _ _ (set-chosen _ _ _ _ _ _ _ (at-start-size .start-size .ensures) (part-violations (entry .args .shape) (now (entry .args .scratch)) ∙ entry .pre .3) (set-built _ _ _ (start-most _ _ _ _ (at-start-size .start-size .ensures) (entry .pre .0 .weights)) _ _ (at-construct-ws .construct-ws .ensures .0) (at-construct-ws .construct-ws .ensures .1))) _ _ _ _ (at-run-epochs .run-epochs .ensures .0) sets (c .enum-told .given .1)),
-      at-run-epochs .run-epochs .ensures .1,
-      grown-none _,
-    )
+    let behind = c .before .before .before .before .before .before .before .before in
+    let e = behind .run-epochs .ensures in
+    ((λ sets. shown-bad _ _ _ _ _ _ _ _ _ (chosen (built behind)) _ _ _ _ (e .0) sets (c .enum-told .given .1)), e .1, grown-none _)
 
 pub iterate-spec : {M : Type 1} → statement M
 iterate-spec =

@@ -104,10 +104,11 @@ module _ (X : Design) (n p : ℕ) (hn : X .n ≡ n) (hp : X .p ≡ p) where
   pub squares-constants : (m : ℕ) (b r : List Float) → m ≡ p → b ≡ tab (squares X) p → r ≡ tab (λ j. at b j ⊘ count n) m → r ≡ tab (lipschitz X) p
   unfolding lipschitz
   squares-constants m b r hm e k =
+      let square : (j : ℕ) → j < p → at b j ≡ squares X j = λ j h. ap (λ (l : List Float). at l j) e ∙ getD-tab (squares X) p j nan h in
       k
       ∙ ap (tab (λ j. at b j ⊘ count n)) hm
       ∙ tab-same (λ j. at b j ⊘ count n) (λ j. squares X j ⊘ count (X .n)) p
-      (λ j h. ap (λ (x : Float). x ⊘ count n) (ap (λ (l : List Float). at l j) e ∙ getD-tab (squares X) p j nan h) ∙ ap (λ (i : ℕ). squares X j ⊘ count i) (sym hn))
+      (λ j h. ap (λ (x : Float). x ⊘ count n) (square j h) ∙ ap (λ (i : ℕ). squares X j ⊘ count i) (sym hn))
 
   -- constants lent as the first half of a buffer of 2p places, and then products as the second
   pub halves : (y a d l : List Float) → a ≡ tab (lipschitz X) p → d ≡ dots X y → length l ≡ p + p
@@ -121,7 +122,8 @@ module _ (X : Design) (n p : ℕ) (hn : X .n ≡ n) (hp : X .p ≡ p) where
       (ap (λ (z : List Float). z ++ d) (ea ∙ ap (tab (lipschitz X)) (sym hp)) ∙ ap (λ (z : List Float). tab (lipschitz X) (X .p) ++ z) ed)
 
   -- the largest of the products
-  pub largest-dots : (m : ℕ) (y b : List Float) (v : Float) → length b ≡ m → m ≡ p → b ≡ dots X y → v ≡ largestFrom #0 (λ j. abs (at b j)) (length b) → v ⊘ count n ≡ alphaMax X y
+  pub largest-dots : (m : ℕ) (y b : List Float) (v : Float) → length b ≡ m → m ≡ p → b ≡ dots X y
+      → v ≡ largestFrom #0 (λ j. abs (at b j)) (length b) → v ⊘ count n ≡ alphaMax X y
   unfolding alphaMax dots
   largest-dots m y b v hb hm e k =
       let same : largestFrom #0 (λ j. abs (at b j)) (X .p) ≡ largestFrom #0 (λ j. abs (dot X j y)) (X .p) =

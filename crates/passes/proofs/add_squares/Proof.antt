@@ -14,7 +14,9 @@ use Rattle.passes.proofs.add_squares.Statement.{statement}
 use Rattle.passes.proofs.add_squares.Tie as tie
 
 abbrev Inv-loop : tie.InvT-loop
-Inv-loop values base buf₀ j₀ buf j = (j ≤ length buf₀) × (length buf ≡ length buf₀) × (buf ≡ tab (λ k. at buf₀ k ⊕ at values (base + k) ⊗ at values (base + k)) j ++ drop j buf₀)
+Inv-loop values base buf₀ j₀ buf j =
+    (j ≤ length buf₀) × (length buf ≡ length buf₀)
+    × (buf ≡ tab (λ k. at buf₀ k ⊕ at values (base + k) ⊗ at values (base + k)) j ++ drop j buf₀)
 
 abbrev μ-loop : tie.MeasureT-loop
 μ-loop values base buf₀ j₀ buf j = length buf₀ - j

@@ -13,7 +13,9 @@ use Rattle.passes.proofs.csc_square.Statement.{statement}
 use Rattle.passes.proofs.csc_square.Tie as tie
 
 abbrev Inv-loop : tie.InvT-loop
-Inv-loop starts rows values j start end many s₀ k₀ s k = (k ≤ many) × (start + many ≤ length values) × (s ≡ total (λ i. at values (start + i) ⊗ at values (start + i)) k)
+Inv-loop starts rows values j start end many s₀ k₀ s k =
+    (k ≤ many) × (start + many ≤ length values)
+    × (s ≡ total (λ i. at values (start + i) ⊗ at values (start + i)) k)
 
 abbrev μ-loop : tie.MeasureT-loop
 μ-loop starts rows values j start end many s₀ k₀ s k = many - k

@@ -11,7 +11,9 @@ use Rattle.passes.proofs.csc_squares.Statement.{statement}
 use Rattle.passes.proofs.csc_squares.Tie as tie
 
 abbrev Inv-loop : tie.InvT-loop
-Inv-loop shape starts rows values buf₀ j₀ buf j = (j ≤ length buf₀) × (length buf ≡ length buf₀) × (buf ≡ tab (squares (csc (shape .n) (shape .p) starts rows values)) j ++ drop j buf₀)
+Inv-loop shape starts rows values buf₀ j₀ buf j =
+    (j ≤ length buf₀) × (length buf ≡ length buf₀)
+    × (buf ≡ tab (squares (csc (shape .n) (shape .p) starts rows values)) j ++ drop j buf₀)
 
 abbrev μ-loop : tie.MeasureT-loop
 μ-loop shape starts rows values buf₀ j₀ buf j = length buf₀ - j

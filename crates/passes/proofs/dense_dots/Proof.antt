@@ -1,6 +1,7 @@
 -- `dense_dots`: the invariant is the running sums over the rows passed. Assumes nothing.
 use mathlib.Core.Path.{_≡_}
-use Prim.Native.Nat.{_≤_, _-_, _+_, _*_}
+use Prim.Native.Nat.{ℕ, _≤_, _-_, _+_, _*_}
+use lib.Ieee.{Float}
 use lib.ListN.{length}
 use denote.Ref.{now}
 use Rattle.doubles.specs.Num.{_⊗_, at}
@@ -18,12 +19,19 @@ Inv-loop n values v buf₀ i₀ buf i = (i ≤ n) × (length buf ≡ length buf�
 abbrev μ-loop : tie.MeasureT-loop
 μ-loop n values v buf₀ i₀ buf i = n - i
 
-inside : (c : tie.In-loop Inv-loop μ-loop) → c .before .loop .i * length (c .before .loop .buf) + length (c .before .loop .buf) ≤ length (now (c .before .before .before .before .before .before .before .before .before .args .values))
+abbrev entry : tie.At-loop Inv-loop μ-loop → tie.Start Inv-loop μ-loop
+entry c = c .before .before .before .before .before .before .before .before
+
+-- what row k adds to sum j, in rows of q places
+abbrev added : tie.Start Inv-loop μ-loop → ℕ → ℕ → ℕ → Float
+added c q k j = at (now (c .args .values)) (k * q + j) ⊗ at (now (c .args .v)) k
+
+inside : (c : tie.In-loop Inv-loop μ-loop) → let b = length (c .before .loop .buf) in
+    c .before .loop .i * b + b ≤ length (now (entry (c .before) .args .values))
 inside c =
-    row-inside (c .before .before .before .before .before .before .before .before .before .args .n)
-    (length (now (c .before .before .before .before .before .before .before .before .before .args .buf))) (length (c .before .loop .buf))
-    (c .before .loop .i) (length (now (c .before .before .before .before .before .before .before .before .before .args .values)))
-    (c .loop-test .taken) (omega arith) (c .before .before .before .before .before .before .before .before .before .pre .0)
+    let start = entry (c .before) in
+    let row = row-inside (start .args .n) (length (now (start .args .buf))) (length (c .before .loop .buf)) (c .before .loop .i) _ in
+    row (c .loop-test .taken) (omega arith) (start .pre .0)
 
 clear-requires : tie.Need-clear-requires Inv-loop μ-loop
 clear-requires c κs = search needs
@@ -50,21 +58,9 @@ loop-less : tie.Need-loop-less Inv-loop μ-loop
 loop-less c = search needs
 
 loop-again : tie.Need-loop-again Inv-loop μ-loop
-loop-again c = (
-  search needs,
-  search needs,
-  sums-turn
-      (λ q k j.
-      at
-      (now
-      (c .before .before .before .before .before .before .before .before .before .before .before .before .before .before .args .values))
-      (k * q + j) ⊗ at
-      (now
-      (c .before .before .before .before .before .before .before .before .before .before .before .before .before .before .args .v))
-      k)
-      _ _ _ _ (c .before .before .before .before .before .before .loop .inv .2)
-      (c .before .before .before .before .before .before .loop .inv .1) (c .before .before .add-row .ensures),
-)
+loop-again c =
+    let turn = c .before .before .before .before .before .before in
+    (search needs, search needs, sums-turn (added (entry turn)) _ _ _ _ (turn .loop .inv .2) (turn .loop .inv .1) (c .before .before .add-row .ensures))
 
 same-length : tie.Need-same-length Inv-loop μ-loop
 same-length c = search needs
@@ -72,11 +68,8 @@ same-length c = search needs
 returns : tie.Need-returns Inv-loop μ-loop
 unfolding dots dot dense
 returns c =
-    sums-all
-    (λ q k j.
-    at (now (c .before .before .before .before .before .before .before .before .before .args .values)) (k * q + j) ⊗ at
-    (now (c .before .before .before .before .before .before .before .before .before .args .v)) k)
-    _ _ _ _ _ (c .before .loop .inv .2) (search needs) (c .before .loop .inv .0) (c .loop-test .left)
+    let end = c .before in
+    sums-all (added (entry end)) _ _ _ _ _ (end .loop .inv .2) (search needs) (end .loop .inv .0) (c .loop-test .left)
 
 pub dense-dots-spec : {M : Type 1} → statement M
 dense-dots-spec =

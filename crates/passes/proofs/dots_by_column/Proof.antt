@@ -11,7 +11,9 @@ use Rattle.passes.proofs.dots_by_column.Statement.{statement}
 use Rattle.passes.proofs.dots_by_column.Tie as tie
 
 abbrev Inv-loop : tie.InvT-loop
-Inv-loop shape starts rows values v buf₀ j₀ buf j = (j ≤ length buf₀) × (length buf ≡ length buf₀) × (buf ≡ tab (λ k. dot (design shape starts rows values) k v) j ++ drop j buf₀)
+Inv-loop shape starts rows values v buf₀ j₀ buf j =
+    (j ≤ length buf₀) × (length buf ≡ length buf₀)
+    × (buf ≡ tab (λ k. dot (design shape starts rows values) k v) j ++ drop j buf₀)
 
 abbrev μ-loop : tie.MeasureT-loop
 μ-loop shape starts rows values v buf₀ j₀ buf j = length buf₀ - j
@@ -20,11 +22,9 @@ loop-holds : tie.Need-loop-holds Inv-loop μ-loop
 loop-holds c = (search needs, search needs, tab-none _ _)
 
 column-dot-requires : tie.Need-column-dot-requires Inv-loop μ-loop
-column-dot-requires c κs = (
-  search needs,
-  c .before .before .before .before .before .before .before .pre .1,
-  c .before .before .before .before .before .before .before .pre .2,
-)
+column-dot-requires c κs =
+    let start = c .before .before .before .before .before .before .before in
+    (search needs, start .pre .1, start .pre .2)
 
 mul-buf : tie.Need-mul-buf Inv-loop μ-loop
 mul-buf c = search needs
