@@ -6,8 +6,8 @@ use lib.ListN.{length, take, replicate}
 use Rattle.doubles.specs.Num.{#0, pick}
 use Rattle.doubles.specs.Buffer.{put}
 use Rattle.doubles.specs.Answer.{Outcome, refused, answered}
-use Rattle.runs.specs.Call.{Lent, lent, fitCall, fitLeft}
-use Rattle.runs.specs.declared.Report.{Report}
+use Rattle.definition.specs.Call.{Lent, lent, fitCall, fitLeft}
+use Rattle.definition.specs.declared.Report.{Report}
 use Rattle.files.specs.Call.{Problem, parsed}
 use Rattle.listings.specs.Listing.{refusedLine, listed}
 

@@ -4,12 +4,12 @@ ghost use lib.ListN.{length};
 ghost use Rattle.listings.specs.Call.{writtenOf, Short};
 ghost use Rattle.answers.specs.Printed as def;
 ghost use Rattle.answers.specs.InPlaces as here;
+use definition::Fit;
 use files::Parsed;
 use files::Sizes;
 use files::read;
 use listings::Written;
 use listings::write_listing;
-use runs::Fit;
 use solvers::coordinate_descent;
 
 // The listing of a problem whose arrays lie in the first places of these. 1,056 places are the largest scratch of the program's sizes.

@@ -1,2 +1,2 @@
--- A definition that the row-by-row fit is stated with; what a caller relies on stands in the crate `designs`.
-pub mod RowFit
+-- What a reader believes stands in the crates below; here is what contracts of inner functions cite.
+pub mod Inner

@@ -7,17 +7,17 @@ ghost use lib.ListN.{length};
 ghost use Rattle.doubles.specs.Num as num;
 ghost use Rattle.doubles.specs.Steps.{all};
 ghost use Rattle.doubles.specs.Answer.{none, verdictOf};
-ghost use Rattle.runs.specs.WorkingSet as set';
-ghost use Rattle.runs.specs.Run as def;
-ghost use Rattle.runs.specs.Call as call;
+ghost use Rattle.definition.specs.WorkingSet as set';
+ghost use Rattle.definition.specs.Run as def;
+ghost use Rattle.definition.specs.Call as call;
+use definition::Settings;
 use designs::Shape;
 use doubles::Verdict;
 use doubles::inner::both;
 use doubles::inner::refused;
 use doubles::is_finite;
-use leaves::penalties::inner::alpha_in_range;
-use leaves::penalties::inner::check_range;
-use runs::Settings;
+use penalties::inner::alpha_in_range;
+use penalties::inner::check_range;
 
 // ---- settings
 

@@ -6,7 +6,7 @@ ghost use lib.ListN.{length, getD};
 ghost use Rattle.doubles.specs.Answer.{verdictOf};
 ghost use Rattle.designs.specs.Given.{given};
 ghost use Rattle.designs.specs.Checks as checks';
-ghost use Rattle.designs.specs.Sound.{Rising};
+ghost use Rattle.designs.specs.Inner.Sound.{Rising};
 use crate::Found;
 use crate::Layout;
 use crate::Shape;

@@ -14,15 +14,15 @@ use Rattle.doubles.proofs.Laws.Finite.{largest-finite}
 use Rattle.doubles.proofs.Laws.Ends.{last-turn, going≢stopped, stopped≢bad, refused≢answered}
 use Rattle.designs.specs.Given.{Given}
 use Rattle.designs.proofs.Laws.Layouts.{samples}
-use Rattle.runs.specs.Epoch.{Task, violationOf, known, allKnown, worst}
-use Rattle.runs.specs.Run.{Inner, epochs, State, chosenSet, iteration, ends, turn, start, run}
-use Rattle.runs.specs.Call.{Lent, fitFault, End, untouched, givenUp, done, solved, taskOf, fitted, behind, fitEnd}
-use Rattle.runs.specs.Call.{reportOf, answer, buffers, fitCall, fitLeft}
-use Rattle.runs.specs.declared.Settings.{Settings}
-use Rattle.runs.specs.declared.Report.{Report}
-use Rattle.runs.proofs.Laws.Ends.{begun, solved-done}
-use Rattle.runs.proofs.Laws.Left.{left-weight, left-fit}
-use Rattle.runs.proofs.Laws.Passed.{passed}
+use Rattle.definition.specs.Epoch.{Task, violationOf, known, allKnown, worst}
+use Rattle.definition.specs.Run.{Inner, epochs, State, chosenSet, iteration, ends, turn, start, run}
+use Rattle.definition.specs.Call.{Lent, fitFault, End, untouched, givenUp, done, solved, taskOf, fitted, behind, fitEnd}
+use Rattle.definition.specs.Call.{reportOf, answer, buffers, fitCall, fitLeft}
+use Rattle.definition.specs.declared.Settings.{Settings}
+use Rattle.definition.specs.declared.Report.{Report}
+use Rattle.definition.proofs.Laws.Ends.{begun, solved-done}
+use Rattle.definition.proofs.Laws.Left.{left-weight, left-fit}
+use Rattle.definition.proofs.Laws.Passed.{passed}
 use Rattle.two_runs.proofs.OneRun.{reached-keeps}
 use Rattle.endings.specs.NotFinite.{worstAt}
 use Rattle.endings.specs.Completed.{Finite, Completed, CompletedCall}

@@ -9,12 +9,12 @@ use lib.Ieee.{Float}
 use Rattle.doubles.specs.Answer.{refused, answered, Fault, none}
 use Rattle.doubles.proofs.Laws.Ends.{refused≢answered}
 use Rattle.designs.specs.Given.{Given}
-use Rattle.runs.specs.Epoch.{Task}
-use Rattle.runs.specs.Call.{Lent, fitFault, End, untouched, givenUp, done, solved, taskOf, fitted, behind, fitEnd, answer, fitCall}
-use Rattle.runs.specs.declared.Settings.{Settings}
-use Rattle.runs.specs.declared.Report.{Report}
-use Rattle.runs.proofs.Laws.Ends.{begun, run-over, solved-begun}
-use Rattle.runs.proofs.Laws.Passed.{fault-most}
+use Rattle.definition.specs.Epoch.{Task}
+use Rattle.definition.specs.Call.{Lent, fitFault, End, untouched, givenUp, done, solved, taskOf, fitted, behind, fitEnd, answer, fitCall}
+use Rattle.definition.specs.declared.Settings.{Settings}
+use Rattle.definition.specs.declared.Report.{Report}
+use Rattle.definition.proofs.Laws.Ends.{begun, run-over, solved-begun}
+use Rattle.definition.proofs.Laws.Passed.{fault-most}
 use Rattle.endings.specs.NotFinite.{NotFinite, SolveEnds, Seven}
 use Rattle.endings.proofs.Laws.Broken.{solved-broken}
 use Rattle.endings.proofs.Laws.Breaks.{solved-breaks}

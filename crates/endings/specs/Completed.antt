@@ -10,10 +10,10 @@ use Rattle.doubles.specs.Num.{at, finite}
 use Rattle.doubles.specs.Sign.{negzero}
 use Rattle.doubles.specs.Answer.{answered}
 use Rattle.designs.specs.Given.{Given}
-use Rattle.runs.specs.Run.{State}
-use Rattle.runs.specs.Call.{Lent, done, fitEnd, fitCall, fitLeft}
-use Rattle.runs.specs.declared.Settings.{Settings}
-use Rattle.runs.specs.declared.Report.{Report}
+use Rattle.definition.specs.Run.{State}
+use Rattle.definition.specs.Call.{Lent, done, fitEnd, fitCall, fitLeft}
+use Rattle.definition.specs.declared.Settings.{Settings}
+use Rattle.definition.specs.declared.Report.{Report}
 
 -- the p weights, n fit entries and violation of an answer: finite, and no fit entry is -0
 pub record Finite (n p : ℕ) (weights fit : List Float) (violation : Float) : Type 0 where

@@ -11,12 +11,12 @@ use Rattle.doubles.specs.Steps.{going, upto, over}
 use Rattle.doubles.specs.Answer.{refused, answered, none}
 use Rattle.designs.specs.Design.{moved}
 use Rattle.designs.specs.Given.{Given}
-use Rattle.runs.specs.Epoch as Epoch
-use Rattle.runs.specs.Epoch.{Task, gradientOf, violationOf, allKnown, worst, Point, newWeight, visit, visits}
-use Rattle.runs.specs.Run.{Inner, accelerated, checks, epoch, State, chosenSet, turn, start, run}
-use Rattle.runs.specs.Call.{Lent, fitFault, givenUp, usableAt, solved, taskOf, fitCall}
-use Rattle.runs.specs.declared.Settings.{Settings}
-use Rattle.runs.specs.declared.Report.{Report}
+use Rattle.definition.specs.Epoch as Epoch
+use Rattle.definition.specs.Epoch.{Task, gradientOf, violationOf, allKnown, worst, Point, newWeight, visit, visits}
+use Rattle.definition.specs.Run.{Inner, accelerated, checks, epoch, State, chosenSet, turn, start, run}
+use Rattle.definition.specs.Call.{Lent, fitFault, givenUp, usableAt, solved, taskOf, fitCall}
+use Rattle.definition.specs.declared.Settings.{Settings}
+use Rattle.definition.specs.declared.Report.{Report}
 
 -- the working set that is chosen at a state, and the violation it is chosen by
 abbrev pub setAt : Task → Settings → State → List ℕ

@@ -1,3 +1,4 @@
--- Laws on violations and visits.
-pub mod Violations
-pub mod Visits
+-- Laws on the inner loops' definitions.
+pub mod Ready
+pub mod Epochs
+pub mod Reached

@@ -1,2 +1,2 @@
--- What the contracts are stated with; what a caller relies on stands in the crate `runs`.
-pub mod Reading
+-- What a reader believes stands in the crates below; here is what contracts of inner functions cite.
+pub mod Inner

@@ -1,212 +1,239 @@
-// Inner functions of the solver over a design and prepared numbers already checked: violations, and the visits of one epoch. `prepared` holds
-// p constants, then X'y.
+// The epochs of one working set, over a design, settings and buffers already tested. Of the scratch, places 0 to 2p hold the constants and
+// X'y, 2p to 3p the violations, and the rest is the extrapolation's.
 ghost use mathlib.Core.Path.{_≡_};
-ghost use Prim.Native.Nat.{ℕ, _+_, _<_, _≤_};
+ghost use mathlib.Core.List.{List};
+ghost use Prim.Native.Nat.{ℕ, _+_, _≤_, _<_};
+ghost use lib.Ieee.{le, lt};
 ghost use lib.ListN.{length, getD, take};
-ghost use Rattle.designs.specs.Design as design;
-ghost use Rattle.designs.specs.Sound.{Whole};
-ghost use Rattle.runs.specs.Epoch as def;
-ghost use Rattle.epochs.specs.Reading as reading';
-use columns::column_finite;
-use columns::column_update;
-use columns::constant;
-use columns::feature_of;
-use columns::set_weight;
-use columns::weight;
-use designs::Feature;
+ghost use Rattle.doubles.specs.Num as num;
+ghost use Rattle.designs.specs.Given.{given};
+ghost use Rattle.designs.specs.Inner.Sound.{Whole};
+ghost use Rattle.definition.specs.Epoch as ep;
+ghost use Rattle.definition.specs.Run as def;
+ghost use Rattle.extrapolation.specs.Inner.Places.{pointOf, taskIn};
+ghost use Rattle.epochs.specs.Inner.Reading as here;
+use decisions::is_check_due;
+use decisions::is_enough;
+use definition::Settings;
 use designs::Shape;
-use doubles::is_finite;
-use doubles::larger;
-use leaves::penalties::inner::violation;
-use leaves::penalties::separable::Penalty;
-use leaves::penalties::separable::prox;
-use passes::gradients_behind;
-use quadratic::gradient_j;
+use extrapolation::anderson_accel;
+use visits::Worst;
+use visits::cd_epoch;
+use visits::ws_violation;
 
-// The largest violation, or that a gradient or a violation is not finite.
-pub enum Worst {
+// What is counted within the working sets.
+pub struct Counts {
+    pub epochs: usize,
+    pub extrapolations: usize,
+}
+
+// How an epoch ends: the next one may begin, this one was the last, or a number was not finite.
+pub enum InnerStep {
+    Going(Counts),
+    Stopped(Counts),
     Bad,
-    Is(f64),
 }
 
-// ---- violations
-
-// A gradient and its violation, where both are finite.
-fn violation_at(penalty: Penalty, w: f64, g: f64) -> Worst
-    ensures { λ r. ⌜ reading'.worstOf r ≡ reading'.violationAt penalty w g ⌝ }
-{
-    if is_finite(g) {} else {
-        return Worst::Bad;
-    }
-    let v = violation(penalty, w, g);
-    if is_finite(v) {} else {
-        return Worst::Bad;
-    }
-    Worst::Is(v)
-}
-
-// Each gradient, from place 2p of the scratch on, becomes that feature's violation; the largest.
-fn finish_violations(p: usize, penalty: Penalty, w: &[f64], scratch: &mut [f64]) -> Worst
-    requires { ⌜ (p ≤ 8192) × (p ≤ length (now w)) × (p + p + p ≤ length (now scratch)) ⌝ }
-    ensures { λ r. ⌜ (reading'.measuredOf r (now (scratch .exit)) ≡ reading'.finished penalty (now (w .entry)) p (now (scratch .entry)))
-        × (take (p + p) (now (scratch .exit)) ≡ take (p + p) (now (scratch .entry))) ⌝ }
-{
-    let mut largest = -(1.0 / 0.0);
-    let mut j = 0;
-    while j < p {
-        match violation_at(penalty, weight(w, Feature(j)), scratch[p + p + j]) {
-            Worst::Bad => return Worst::Bad,
-            Worst::Is(v) => {
-                scratch[p + p + j] = v;
-                largest = larger(largest, v);
-            }
-        }
-        j += 1;
-    }
-    Worst::Is(largest)
-}
-
-// The violations of all features into places 2p to 3p of the scratch; the largest.
-pub fn opt_cond_violation(
+// The check of a working set's largest violation.
+fn check(
     shape: Shape,
     starts: &[u32],
     rows: &[u32],
     values: &[f64],
-    penalty: Penalty,
+    settings: Settings,
+    outer: f64,
+    prepared: &[f64],
+    ws: &[u32],
     w: &[f64],
     fit: &[f64],
+    counts: Counts,
+) -> InnerStep
+    requires { ⌜ ((k : ℕ) → k < length (now ws) → getD (now ws) k 0 < shape .p) × (shape .n ≤ 65536) × (length (now w) ≡ shape .p)
+        × (length (now prepared) ≡ shape .p + shape .p) × Whole shape (now starts) (now rows) (now values) × (length (now fit) ≡ shape .n) ⌝ }
+    ensures { λ r. ⌜ (let T = ep.task shape (now (starts .entry)) (now (rows .entry)) (now (values .entry)) (settings .penalty) (now (prepared .entry)) in
+        ((kept : List _) → here.innerStage r (now (w .entry)) (now (fit .entry)) kept
+        ≡ def.checked T settings (now (ws .entry)) outer (here.innerOf counts (now (w .entry)) (now (fit .entry)) kept))
+        × (here.countsOf r counts ≡ counts)) ⌝ }
+{
+    let penalty = settings.penalty;
+    match ws_violation(shape, starts, rows, values, penalty, prepared, ws, w, fit) {
+        Worst::Bad => InnerStep::Bad,
+        Worst::Is(v) => {
+            if is_enough(ws.len() == shape.p, settings.tolerance, outer, v) {
+                return InnerStep::Stopped(counts);
+            }
+            InnerStep::Going(counts)
+        }
+    }
+}
+
+// The epoch is counted; with extrapolation on, the weights are kept and the step is tried.
+fn accelerate(
+    shape: Shape,
+    starts: &[u32],
+    rows: &[u32],
+    values: &[f64],
+    y: &[f64],
+    settings: Settings,
+    e: usize,
+    ws: &[u32],
+    w: &mut [f64],
+    fit: &mut [f64],
     scratch: &mut [f64],
-) -> Worst
-    requires { ⌜ (shape .n ≤ 65536) × (shape .p ≤ 8192) × (length (now w) ≡ shape .p)
-        × (shape .p + shape .p + shape .p ≤ length (now scratch)) × Whole shape (now starts) (now rows) (now values)
-        × (length (now fit) ≡ shape .n) ⌝ }
-    ensures { λ r. ⌜ (let prepared = take (shape .p + shape .p) (now (scratch .entry)) in
-        let T = def.task shape (now (starts .entry)) (now (rows .entry)) (now (values .entry)) penalty prepared in
-        (reading'.measuredOf r (now (scratch .exit)) ≡ reading'.measured T (now (w .entry)) (now (fit .entry)) (now (scratch .entry)))
-        × (take (shape .p + shape .p) (now (scratch .exit)) ≡ take (shape .p + shape .p) (now (scratch .entry)))) ⌝ }
+    counts: Counts,
+) -> Counts
+    requires { ⌜ here.Ready (given shape (now starts) (now rows) (now values) (now y)) settings (now w) (now fit) (now scratch)
+        × here.Features shape (now ws) × here.Counted 1000000000 counts ⌝ }
+    ensures { λ r. ⌜ (let g = given shape (now (starts .entry)) (now (rows .entry)) (now (values .entry)) (now (y .entry)) in
+        let T = taskIn g (settings .penalty) (now (scratch .entry)) in
+        let before = here.innerOf counts (now (w .entry)) (now (fit .entry)) (here.keptHere shape settings (now (scratch .entry))) in
+        let after = here.innerOf r (now (w .exit)) (now (fit .exit)) (here.keptHere shape settings (now (scratch .exit))) in
+        (after ≡ def.accelerated T (now (y .entry)) settings (now (ws .entry)) e before (pointOf (now (w .entry)) (now (fit .entry))))
+        × (take (shape .p + shape .p) (now (scratch .exit)) ≡ take (shape .p + shape .p) (now (scratch .entry)))
+        × (r .epochs ≤ counts .epochs + 1)
+        × (r .extrapolations ≤ counts .extrapolations + 1)) ⌝ }
 {
-    gradients_behind(shape, starts, rows, values, fit, scratch);
-    finish_violations(shape.p, penalty, w, scratch)
+    let penalty = settings.penalty;
+    if settings.extrapolate {
+        let taken = anderson_accel(
+            shape,
+            starts,
+            rows,
+            values,
+            y,
+            penalty,
+            settings.depth,
+            e,
+            ws,
+            w,
+            fit,
+            scratch,
+        );
+        return Counts {
+            epochs: counts.epochs + 1,
+            extrapolations: counts.extrapolations + taken,
+        };
+    }
+    Counts {
+        epochs: counts.epochs + 1,
+        extrapolations: counts.extrapolations,
+    }
 }
 
-// The largest violation of a working set.
-pub fn ws_violation(
+// Epoch e: the visits, the extrapolation, the check.
+fn run_epoch(
     shape: Shape,
     starts: &[u32],
     rows: &[u32],
     values: &[f64],
-    penalty: Penalty,
-    prepared: &[f64],
-    ws: &[u32],
-    w: &[f64],
-    fit: &[f64],
-) -> Worst
-    requires { ⌜ ((k : ℕ) → k < length (now ws) → getD (now ws) k 0 < shape .p) × (shape .n ≤ 65536) × (length (now w) ≡ shape .p)
-        × (length (now prepared) ≡ shape .p + shape .p) × Whole shape (now starts) (now rows) (now values)
-        × (length (now fit) ≡ shape .n) ⌝ }
-    ensures { λ r. ⌜ (let T = def.task shape (now (starts .entry)) (now (rows .entry)) (now (values .entry)) penalty (now (prepared .entry)) in
-        reading'.worstOf r ≡ reading'.measuredIn T (now (ws .entry)) (now (w .entry)) (now (fit .entry))) ⌝ }
-{
-    let mut largest = -(1.0 / 0.0);
-    let mut i = 0;
-    while i < ws.len() {
-        let feature = feature_of(ws, i);
-        let g = gradient_j(shape, starts, rows, values, prepared, fit, feature);
-        match violation_at(penalty, weight(w, feature), g) {
-            Worst::Bad => return Worst::Bad,
-            Worst::Is(v) => {
-                largest = larger(largest, v);
-            }
-        }
-        i += 1;
-    }
-    Worst::Is(largest)
-}
-
-// ---- visits
-
-// If the difference is nonzero the fit gains difference·x; whether what changed is finite.
-fn move_fit(
-    shape: Shape,
-    starts: &[u32],
-    rows: &[u32],
-    values: &[f64],
-    feature: Feature,
-    d: f64,
-    fit: &mut [f64],
-) -> bool
-    requires { ⌜ (feature .0 < shape .p) × Whole shape (now starts) (now rows) (now values) × (length (now fit) ≡ shape .n) ⌝ }
-    ensures { λ r. ⌜ (r
-        ≡ def.movedFinite (design.design shape (now (starts .entry)) (now (rows .entry)) (now (values .entry))) (feature .0) d (now (fit .entry)))
-        × (now (fit .exit)
-        ≡ def.movedBy (design.design shape (now (starts .entry)) (now (rows .entry)) (now (values .entry))) (feature .0) d (now (fit .entry))) ⌝ }
-{
-    if d == 0.0 {
-        return true;
-    }
-    column_update(shape, starts, rows, values, feature, d, fit);
-    column_finite(shape, starts, rows, values, feature, fit)
-}
-
-// One feature's step: whether its gradient, new weight and changed fit entries are finite. A column with constant 0 is skipped.
-fn visit(
-    shape: Shape,
-    starts: &[u32],
-    rows: &[u32],
-    values: &[f64],
-    penalty: Penalty,
-    prepared: &[f64],
-    feature: Feature,
-    w: &mut [f64],
-    fit: &mut [f64],
-) -> bool
-    requires { ⌜ (feature .0 < shape .p) × (shape .n ≤ 65536) × (length (now w) ≡ shape .p) × (length (now prepared) ≡ shape .p + shape .p)
-        × Whole shape (now starts) (now rows) (now values) × (length (now fit) ≡ shape .n) ⌝ }
-    ensures { λ r. ⌜ (let T = def.task shape (now (starts .entry)) (now (rows .entry)) (now (values .entry)) penalty (now (prepared .entry)) in
-        reading'.visitOf r (now (w .exit)) (now (fit .exit)) ≡ def.visit T (feature .0) (record { weights = now (w .entry); fit = now (fit .entry) })) ⌝ }
-{
-    let lipschitz = constant(prepared, feature);
-    if lipschitz == 0.0 {
-        return true;
-    }
-    let gradient = gradient_j(shape, starts, rows, values, prepared, fit, feature);
-    if is_finite(gradient) {} else {
-        return false;
-    }
-    let old = weight(w, feature);
-    let new = prox(penalty, old - gradient / lipschitz, 1.0 / lipschitz);
-    if is_finite(new) {} else {
-        return false;
-    }
-    set_weight(w, feature, new);
-    move_fit(shape, starts, rows, values, feature, new - old, fit)
-}
-
-// The visits of one epoch, in the working set's order; whether all went well.
-pub fn cd_epoch(
-    shape: Shape,
-    starts: &[u32],
-    rows: &[u32],
-    values: &[f64],
-    penalty: Penalty,
-    prepared: &[f64],
+    y: &[f64],
+    settings: Settings,
+    outer: f64,
+    e: usize,
     ws: &[u32],
     w: &mut [f64],
     fit: &mut [f64],
-) -> bool
-    requires { ⌜ ((k : ℕ) → k < length (now ws) → getD (now ws) k 0 < shape .p) × (shape .n ≤ 65536) × (length (now w) ≡ shape .p)
-        × (length (now prepared) ≡ shape .p + shape .p) × Whole shape (now starts) (now rows) (now values)
-        × (length (now fit) ≡ shape .n) ⌝ }
-    ensures { λ r. ⌜ (let T = def.task shape (now (starts .entry)) (now (rows .entry)) (now (values .entry)) penalty (now (prepared .entry)) in
-        reading'.visitOf r (now (w .exit)) (now (fit .exit)) ≡ def.visits T (now (ws .entry)) (record { weights = now (w .entry); fit = now (fit .entry) })) ⌝ }
+    scratch: &mut [f64],
+    counts: Counts,
+) -> InnerStep
+    requires { ⌜ here.Ready (given shape (now starts) (now rows) (now values) (now y)) settings (now w) (now fit) (now scratch)
+        × here.Features shape (now ws) × here.Counted 1000000000 counts ⌝ }
+    ensures { λ r. ⌜ (let g = given shape (now (starts .entry)) (now (rows .entry)) (now (values .entry)) (now (y .entry)) in
+        let T = taskIn g (settings .penalty) (now (scratch .entry)) in
+        let before = here.innerOf counts (now (w .entry)) (now (fit .entry)) (here.keptHere shape settings (now (scratch .entry))) in
+        let after = here.innerStage r (now (w .exit)) (now (fit .exit)) (here.keptHere shape settings (now (scratch .exit))) in
+        (after ≡ def.epoch T (now (y .entry)) settings (now (ws .entry)) outer e before)
+        × (take (shape .p + shape .p) (now (scratch .exit)) ≡ take (shape .p + shape .p) (now (scratch .entry)))
+        × (here.countsOf r counts .epochs ≤ counts .epochs + 1)
+        × (here.countsOf r counts .extrapolations ≤ counts .extrapolations + 1)) ⌝ }
 {
-    let mut i = 0;
-    while i < ws.len() {
-        let next = feature_of(ws, i);
-        if visit(shape, starts, rows, values, penalty, prepared, next, w, fit) {} else {
-            return false;
-        }
-        i += 1;
+    let twice = shape.p + shape.p;
+    let penalty = settings.penalty;
+    let prepared = &scratch[..twice];
+    if cd_epoch(shape, starts, rows, values, penalty, prepared, ws, w, fit) {} else {
+        return InnerStep::Bad;
     }
-    true
+    let after = accelerate(
+        shape,
+        starts,
+        rows,
+        values,
+        y,
+        settings,
+        e,
+        ws,
+        w,
+        fit,
+        scratch,
+        counts,
+    );
+    if is_check_due(e) {
+        return check(
+            shape,
+            starts,
+            rows,
+            values,
+            settings,
+            outer,
+            &scratch[..twice],
+            ws,
+            w,
+            fit,
+            after,
+        );
+    }
+    InnerStep::Going(after)
+}
+
+// The epochs of one working set.
+pub fn run_epochs(
+    shape: Shape,
+    starts: &[u32],
+    rows: &[u32],
+    values: &[f64],
+    y: &[f64],
+    settings: Settings,
+    outer: f64,
+    ws: &[u32],
+    w: &mut [f64],
+    fit: &mut [f64],
+    scratch: &mut [f64],
+    from: Counts,
+) -> InnerStep
+    requires { ⌜ here.Ready (given shape (now starts) (now rows) (now values) (now y)) settings (now w) (now fit) (now scratch)
+        × here.Features shape (now ws) × here.Counted 100000000 from ⌝ }
+    ensures { λ r. ⌜ (let g = given shape (now (starts .entry)) (now (rows .entry)) (now (values .entry)) (now (y .entry)) in
+        let T = taskIn g (settings .penalty) (now (scratch .entry)) in
+        let before = here.innerOf from (now (w .entry)) (now (fit .entry)) (here.keptHere shape settings (now (scratch .entry))) in
+        let after = here.innerStage r (now (w .exit)) (now (fit .exit)) (here.keptHere shape settings (now (scratch .exit))) in
+        (after ≡ def.epochs T (now (y .entry)) settings (now (ws .entry)) outer before)
+        × (take (shape .p + shape .p) (now (scratch .exit)) ≡ take (shape .p + shape .p) (now (scratch .entry)))
+        × (here.countsOf r from .epochs ≤ from .epochs + 100000)
+        × (here.countsOf r from .extrapolations ≤ from .extrapolations + 100000)) ⌝ }
+{
+    let mut counts = from;
+    let mut e = 0;
+    while e < settings.epochs {
+        match run_epoch(
+            shape,
+            starts,
+            rows,
+            values,
+            y,
+            settings,
+            outer,
+            e,
+            ws,
+            w,
+            fit,
+            scratch,
+            counts,
+        ) {
+            InnerStep::Going(c) => counts = c,
+            InnerStep::Stopped(c) => return InnerStep::Stopped(c),
+            InnerStep::Bad => return InnerStep::Bad,
+        }
+        e += 1;
+    }
+    InnerStep::Going(counts)
 }

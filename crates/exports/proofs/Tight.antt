@@ -6,8 +6,8 @@ use Prim.Native.Nat.{ℕ}
 use lib.Ieee.{Float}
 use denote.Ref.{RefT, now}
 use Rattle.doubles.proofs.Tight.{coincide}
-use Rattle.runs.specs.Call.{lent}
-use Rattle.codes.specs.Codes.{Reply, reply, report}
+use Rattle.definition.specs.Call.{lent}
+use Rattle.plain_numbers.specs.Codes.{Reply, reply, report}
 use Rattle.exports.proofs.koyramutey_fit_dense.Reads as fit-dense-reads
 use Rattle.exports.proofs.koyramutey_fit_csc.Reads as fit-csc-reads
 use Rattle.exports.proofs.koyramutey_full_grad_dense.Reads as full-grad-reads

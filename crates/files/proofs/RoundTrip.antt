@@ -13,14 +13,14 @@ use lib.Ieee.Bits.{ofBits-fits}
 use borrow.Author.Tests.{le-leb, lt-leb, lt-ltb, eq-eqb, ne-eqb}
 use Rattle.doubles.specs.Num.{pick, _and_}
 use Rattle.doubles.specs.Answer.{answered}
-use Rattle.leaves.specs.Penalty.{alphaOf}
-use Rattle.leaves.specs.declared.penalties.separable.Penalty.{Penalty}
-use Rattle.leaves.specs.declared.penalties.separable.Penalty.the-variants.{L1, L1PlusL2, MCP}
+use Rattle.penalties.specs.Penalty.{alphaOf}
+use Rattle.penalties.specs.declared.separable.Penalty.{Penalty}
+use Rattle.penalties.specs.declared.separable.Penalty.the-variants.{L1, L1PlusL2, MCP}
 use Rattle.designs.specs.declared.Layout.{Layout}
 use Rattle.designs.specs.declared.Layout.the-variants.{Dense, Csc}
 use Rattle.designs.specs.declared.Shape.{Shape}
 use Rattle.designs.specs.Given.{Given, given}
-use Rattle.runs.specs.declared.Settings.{Settings}
+use Rattle.definition.specs.declared.Settings.{Settings}
 use Rattle.files.specs.Bytes.{byte, u16, u32, u64, f64, doubles, indices}
 use Rattle.files.specs.Problem.{Read, nothingRead, isCsc, headerShape, headerPenalty, headerSettings, goodHeader, tagAt, lengthAt, whole}
 use Rattle.files.specs.Problem.{knownTag, elementSize, stored, goodField, goodAt, good, joined, nextRead, readOn, readAll}

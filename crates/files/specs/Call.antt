@@ -10,7 +10,7 @@ use Rattle.doubles.specs.Num.{pick, _and_}
 use Rattle.doubles.specs.Buffer.{put}
 use Rattle.doubles.specs.Answer.{Outcome, refused, answered}
 use Rattle.designs.specs.Given.{Given, given}
-use Rattle.runs.specs.declared.Settings.{Settings}
+use Rattle.definition.specs.declared.Settings.{Settings}
 use Rattle.files.specs.Problem.{Read, readAll, headerShape, headerSettings}
 use Rattle.files.specs.declared.Sizes.{Sizes}
 use Rattle.files.specs.declared.Parsed.{Parsed}

@@ -7,11 +7,11 @@ use lib.Dec.{leb, eqb}
 use lib.ListN.{length}
 use lib.Ieee.{Float}
 use Rattle.doubles.specs.Num.{pick, _and_}
-use Rattle.leaves.specs.declared.penalties.separable.Penalty.{Penalty}
-use Rattle.leaves.specs.declared.penalties.separable.Penalty.the-variants.{L1, L1PlusL2, MCP}
+use Rattle.penalties.specs.declared.separable.Penalty.{Penalty}
+use Rattle.penalties.specs.declared.separable.Penalty.the-variants.{L1, L1PlusL2, MCP}
 use Rattle.designs.specs.declared.Layout.the-variants.{Dense, Csc}
 use Rattle.designs.specs.declared.Shape.{Shape}
-use Rattle.runs.specs.declared.Settings.{Settings}
+use Rattle.definition.specs.declared.Settings.{Settings}
 use Rattle.files.specs.Bytes.{byte, u16, u32, f64, doubles, indices}
 
 -- ---- "Tag 1 comes first, once, 48 bytes: n, p (u32); design 0 dense/1 CSC, penalty 0 L1/1 L1PlusL2/2 MCP, extrapolate 0/1, K (one byte each);

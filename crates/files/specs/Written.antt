@@ -7,13 +7,13 @@ use lib.Dec.{T}
 use lib.ListN.{length, getD}
 use lib.Ieee.{Float, binary64, fits, toBits}
 use Rattle.doubles.specs.Num.{at, #0}
-use Rattle.leaves.specs.Penalty.{alphaOf}
-use Rattle.leaves.specs.declared.penalties.separable.Penalty.{Penalty}
-use Rattle.leaves.specs.declared.penalties.separable.Penalty.the-variants.{L1, L1PlusL2, MCP}
+use Rattle.penalties.specs.Penalty.{alphaOf}
+use Rattle.penalties.specs.declared.separable.Penalty.{Penalty}
+use Rattle.penalties.specs.declared.separable.Penalty.the-variants.{L1, L1PlusL2, MCP}
 use Rattle.designs.specs.declared.Layout.{Layout}
 use Rattle.designs.specs.declared.Layout.the-variants.{Dense, Csc}
 use Rattle.designs.specs.declared.Shape.{Shape}
-use Rattle.runs.specs.declared.Settings.{Settings}
+use Rattle.definition.specs.declared.Settings.{Settings}
 use Rattle.files.specs.Call.{Problem}
 
 -- ---- "all little-endian": the lowest byte first

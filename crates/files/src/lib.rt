@@ -12,11 +12,11 @@ use crate::inner::put_doubles;
 use crate::inner::put_indices;
 use crate::inner::u16_at;
 use crate::inner::u32_at;
+use definition::Settings;
 use designs::Layout;
 use designs::Shape;
 use doubles::Refusal;
-use leaves::penalties::separable::Penalty;
-use runs::Settings;
+use penalties::separable::Penalty;
 
 pub mod inner;
 

@@ -3,10 +3,8 @@
 ghost use mathlib.Core.Path.{_≡_};
 ghost use lib.ListN.{length};
 ghost use Rattle.doubles.specs.Answer.{verdictOf};
-ghost use Rattle.codes.specs.Codes.{numberOfFault, placeOfFault};
+ghost use Rattle.plain_numbers.specs.Codes.{numberOfFault, placeOfFault};
 ghost use Rattle.kernels.specs.Kernels as kernels;
-use codes::dense;
-use codes::tell_verdict;
 use columns::column_dot;
 use columns::column_update;
 use designs::Feature;
@@ -14,6 +12,8 @@ use designs::inner::sizes_agree;
 use doubles::Verdict;
 use doubles::inner::both;
 use doubles::inner::refused;
+use plain_numbers::dense;
+use plain_numbers::tell_verdict;
 
 // 1 and 3, where the list that the column meets has so many places.
 fn admit_column(n: usize, p: usize, values: &[f64], column: usize, places: usize) -> Verdict

@@ -8,7 +8,7 @@ use Rattle.doubles.specs.Num.{_and_}
 use Rattle.doubles.specs.Buffer.{put}
 use Rattle.doubles.specs.Answer.{Outcome, refused, answered}
 use Rattle.doubles.specs.Answer.{Fault, none, unless, after, left}
-use Rattle.runs.specs.declared.Report.{Report}
+use Rattle.definition.specs.declared.Report.{Report}
 use Rattle.listings.specs.Listing.{listed}
 use Rattle.listings.specs.declared.Written.{Written}
 use Rattle.listings.specs.declared.Written.the-variants as Written

@@ -10,7 +10,7 @@ use Rattle.doubles.specs.Num.{at, pick}
 use Rattle.doubles.specs.Steps.{steps}
 use Rattle.io.specs.Digits.{digits}
 use Rattle.doubles.specs.Answer.{Outcome, refused, answered}
-use Rattle.runs.specs.declared.Report.{Report}
+use Rattle.definition.specs.declared.Report.{Report}
 
 -- the bytes of a text
 unfoldable pub codes : String → List ℕ

@@ -5,8 +5,8 @@ ghost use lib.ListN.{length};
 ghost use Rattle.doubles.specs.Num.{_and_};
 ghost use Rattle.listings.specs.Listing as lines;
 ghost use Rattle.listings.specs.Wrote.{Room, Wrote};
+use definition::Report;
 use doubles::Refusal;
-use runs::Report;
 
 // The program's sizes.
 pub fn sizes_fit(w: &[f64], entries: &[f64]) -> bool

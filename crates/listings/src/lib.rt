@@ -2,10 +2,10 @@
 ghost use mathlib.Core.Path.{_≡_};
 ghost use lib.ListN.{length};
 ghost use Rattle.doubles.specs.Answer.{refused as refused'};
-ghost use Rattle.runs.specs.Call.{fitOf};
+ghost use Rattle.definition.specs.Call.{fitOf};
 ghost use Rattle.listings.specs.Call as calls;
+use definition::Fit;
 use doubles::Refusal;
-use runs::Fit;
 
 pub mod inner;
 

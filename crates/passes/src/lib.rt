@@ -7,7 +7,7 @@ ghost use Rattle.doubles.specs.Num as num;
 ghost use Rattle.doubles.specs.Buffer.{put};
 ghost use Rattle.doubles.specs.Steps.{tab, largestFrom};
 ghost use Rattle.designs.specs.Design as def;
-ghost use Rattle.designs.specs.Sound.{Sound, Whole};
+ghost use Rattle.designs.specs.Inner.Sound.{Sound, Whole};
 use columns::clear;
 use columns::column_dot;
 use designs::Feature;

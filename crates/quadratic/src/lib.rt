@@ -6,7 +6,7 @@ ghost use lib.ListN.{length, getD, take};
 ghost use Rattle.doubles.specs.Num as num;
 ghost use Rattle.doubles.specs.Buffer.{put};
 ghost use Rattle.designs.specs.Design as def;
-ghost use Rattle.designs.specs.Sound.{Whole};
+ghost use Rattle.designs.specs.Inner.Sound.{Whole};
 use designs::Feature;
 use designs::Shape;
 

@@ -1,5 +1,5 @@
 -- The arrays of a record lie within its words.
-use Rattle.vectors.specs.Within.{Within}
+use Rattle.list_reader.specs.Within.{Within}
 use Rattle.replay_designs.specs.declared.arrays.Arrays.{Arrays}
 
 pub record AllWithin (a : Arrays) : Type 0 where

@@ -1,10 +1,10 @@
 // Which arrays a record has.
 ghost use Prim.Native.Nat.{_≤_};
 ghost use Rattle.replay_designs.specs.AllWithin.{AllWithin};
-ghost use Rattle.vectors.specs.Within.{Within};
-use vectors::Words;
-use vectors::parts::Part;
-use vectors::parts::part_at;
+ghost use Rattle.list_reader.specs.Within.{Within};
+use list_reader::Words;
+use list_reader::parts::Part;
+use list_reader::parts::part_at;
 
 // All arrays of a record, in their order. One that the code does not have is empty.
 pub struct Arrays {

@@ -2,7 +2,7 @@
 mod arrays;
 mod record;
 
-use vectors::list;
+use list_reader::list;
 
 fn main() {
     let mut path = io::buffer();

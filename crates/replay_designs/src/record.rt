@@ -3,7 +3,7 @@
 // layout, 17 check.
 ghost use Prim.Native.Nat.{_+_, _≤_};
 ghost use Rattle.replay_designs.specs.AllWithin.{AllWithin};
-ghost use Rattle.vectors.specs.Within.{Within};
+ghost use Rattle.list_reader.specs.Within.{Within};
 use crate::arrays::Arrays;
 use crate::arrays::arrays_of;
 use designs::Feature;
@@ -13,17 +13,17 @@ use doubles::Number;
 use doubles::Refusal;
 use doubles::Verdict;
 use doubles::double;
-use vectors::Words;
-use vectors::outcomes::same_number;
-use vectors::parts::Doubles;
-use vectors::parts::Part;
-use vectors::parts::all_narrow;
-use vectors::parts::doubles_of;
-use vectors::parts::indices_of;
-use vectors::parts::part_of;
-use vectors::parts::same_doubles;
-use vectors::progress::Compared;
-use vectors::progress::judge;
+use list_reader::Words;
+use list_reader::outcomes::same_number;
+use list_reader::parts::Doubles;
+use list_reader::parts::Part;
+use list_reader::parts::all_narrow;
+use list_reader::parts::doubles_of;
+use list_reader::parts::indices_of;
+use list_reader::parts::part_of;
+use list_reader::parts::same_doubles;
+use list_reader::progress::Compared;
+use list_reader::progress::judge;
 
 // A call beside its slices. Where the code has no feature or no difference, these are any words.
 struct Call {

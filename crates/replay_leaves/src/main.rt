@@ -1,7 +1,7 @@
 // Replays a list of the oracle's answers through the leaves. The list's name is the first argument.
 mod record;
 
-use vectors::list;
+use list_reader::list;
 
 fn main() {
     let mut path = io::buffer();

@@ -9,7 +9,7 @@ ghost use lib.Ieee.{Float, eq};
 ghost use lib.ListN.{length, getD, take, set};
 ghost use Rattle.doubles.specs.Num as num;
 ghost use Rattle.doubles.specs.Inner.Order as order;
-ghost use Rattle.runs.specs.WorkingSet as def;
+ghost use Rattle.definition.specs.WorkingSet as def;
 ghost use Rattle.selection.specs.Inner.Heap as heap;
 
 // ---- a heap

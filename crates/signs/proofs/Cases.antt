@@ -17,15 +17,15 @@ use Rattle.doubles.proofs.Laws.Signs.{zero-turned, signs-at}
 use Rattle.doubles.specs.Steps.{steps}
 use Rattle.designs.specs.Design.{dense, csc, laid}
 use Rattle.designs.specs.Given.{Given}
-use Rattle.designs.specs.Sound.{Rising, Held}
+use Rattle.designs.specs.Inner.Sound.{Rising, Held}
 use Rattle.designs.specs.declared.Layout.{Layout}
 use Rattle.designs.specs.declared.Layout.the-variants.{Dense, Csc}
 use Rattle.doubles.specs.Answer.{refused, answered, none as no-fault}
-use Rattle.runs.specs.WorkingSet.{isZero}
-use Rattle.runs.specs.Call.{Lent, fitFault, fitCall, fitLeft}
-use Rattle.runs.specs.declared.Report.{Report}
-use Rattle.runs.specs.declared.Settings.{Settings}
-use Rattle.runs.proofs.Laws.Passed.{passed}
+use Rattle.definition.specs.WorkingSet.{isZero}
+use Rattle.definition.specs.Call.{Lent, fitFault, fitCall, fitLeft}
+use Rattle.definition.specs.declared.Report.{Report}
+use Rattle.definition.specs.declared.Settings.{Settings}
+use Rattle.definition.proofs.Laws.Passed.{passed}
 use Rattle.signs.specs.Turning.{withNumbers, SameCall, turned, signsOf}
 use Rattle.signs.proofs.SignLaw.{sign-law-passed, sign-law}
 

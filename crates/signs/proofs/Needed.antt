@@ -8,21 +8,21 @@ use lib.Ieee.{Float, neg, add, sub, mul, div, lt, eq, le, ofInt, ofBits, isNan, 
 use Rattle.doubles.specs.Num.{#0, #1, #2, _and_, _or_, abs, signum, finite, larger}
 use Rattle.doubles.specs.Buffer.{put}
 use Rattle.doubles.specs.Steps.{steps, upward, downward}
-use Rattle.leaves.specs.Soft.{soft}
-use Rattle.leaves.specs.Penalty.{sumAbs, value, proxL1, prox, excess, violationL1, violation}
-use Rattle.systems.specs.Elimination.{reduced, cleared, clearedBelow, echelon, clearedAbove, backSubstituted, regular, readOff, eliminated}
-use Rattle.leaves.specs.declared.penalties.separable.Penalty.the-variants.{L1}
+use Rattle.penalties.specs.Soft.{soft}
+use Rattle.penalties.specs.Penalty.{sumAbs, value, proxL1, prox, excess, violationL1, violation}
+use Rattle.elimination.specs.Elimination.{reduced, cleared, clearedBelow, echelon, clearedAbove, backSubstituted, regular, readOff, eliminated}
+use Rattle.penalties.specs.declared.separable.Penalty.the-variants.{L1}
 use Rattle.designs.specs.Design.{dense, laid, dot, squares, lipschitz, dots, prepared}
 use Rattle.designs.specs.Design.{gradientFrom, gradient, squaredError, datafit, moved, finiteAt, movedAll, extrapolated}
 use Rattle.designs.specs.Given.{given}
 use Rattle.designs.specs.declared.Layout.the-variants.{Dense}
-use Rattle.runs.specs.WorkingSet.{support, size, insert, others, workingSet}
-use Rattle.runs.specs.Epoch.{gradientOf, violationOf, known, allKnown, violations, worst, knownIn}
-use Rattle.runs.specs.Epoch.{worstIn, newWeight, movedBy, movedFinite, fine, visited, visit, visits}
-use Rattle.runs.specs.Extrapolation.{keptNow, entry, systemRow, system, coefficients, combined, candidate}
-use Rattle.runs.specs.Extrapolation.{objectiveOf, allFinite, better, chosen, pointOf, candidateOf, fromSystem, extrapolate, due, tried}
-use Rattle.runs.specs.Run.{accelerated, enough, checked, checks, settled, epoch, epochs, chosenSet, iteration, turn, start, run}
-use Rattle.runs.specs.Call.{End, untouched, givenUp, done, usable, solved, fitted}
+use Rattle.definition.specs.WorkingSet.{support, size, insert, others, workingSet}
+use Rattle.definition.specs.Epoch.{gradientOf, violationOf, known, allKnown, violations, worst, knownIn}
+use Rattle.definition.specs.Epoch.{worstIn, newWeight, movedBy, movedFinite, fine, visited, visit, visits}
+use Rattle.definition.specs.Extrapolation.{keptNow, entry, systemRow, system, coefficients, combined, candidate}
+use Rattle.definition.specs.Extrapolation.{objectiveOf, allFinite, better, chosen, pointOf, candidateOf, fromSystem, extrapolate, due, tried}
+use Rattle.definition.specs.Run.{accelerated, enough, checked, checks, settled, epoch, epochs, chosenSet, iteration, turn, start, run}
+use Rattle.definition.specs.Call.{End, untouched, givenUp, done, usable, solved, fitted}
 
 -- the extrapolations that were taken, where the run is done
 abbrev taken : End → List ℕ

@@ -7,18 +7,18 @@ use Prim.Native.Nat.{ℕ, _≤_, _<_}
 use lib.Ieee.{Float}
 use Rattle.doubles.specs.Answer.{none}
 use Rattle.doubles.specs.Sign.{Turned, Signs}
-use Rattle.leaves.specs.Odd.{Odd}
-use Rattle.leaves.proofs.Odd.{odd}
+use Rattle.penalties.specs.Odd.{Odd}
+use Rattle.penalties.proofs.Odd.{odd}
 use Rattle.designs.specs.Design.{Design, dense, csc, laid, prepared}
 use Rattle.designs.specs.Given.{Given, designOf}
 use Rattle.designs.specs.declared.Layout.{Layout}
 use Rattle.designs.specs.declared.Layout.the-variants.{Dense, Csc}
 use Rattle.designs.proofs.Laws.Layouts.{samples, features}
-use Rattle.runs.specs.Call.{Lent, fitFault, solved, taskOf, fitted, fitEnd, fitCall, fitLeft}
-use Rattle.runs.specs.declared.Settings.{Settings}
-use Rattle.runs.proofs.Laws.Ends.{solved-begun}
-use Rattle.runs.proofs.Laws.Passed.{passed}
-use Rattle.runs.proofs.Laws.Settings.{penalty-legal}
+use Rattle.definition.specs.Call.{Lent, fitFault, solved, taskOf, fitted, fitEnd, fitCall, fitLeft}
+use Rattle.definition.specs.declared.Settings.{Settings}
+use Rattle.definition.proofs.Laws.Ends.{solved-begun}
+use Rattle.definition.proofs.Laws.Passed.{passed}
+use Rattle.definition.proofs.Laws.Settings.{penalty-legal}
 use Rattle.two_runs.specs.Stages.{Ends}
 use Rattle.two_runs.proofs.Laws.Loops.{ends-map, behind-related}
 use Rattle.two_runs.proofs.TwoRuns.{answer-same}

@@ -15,9 +15,9 @@ use Rattle.designs.specs.Given.{Given, given, designOf}
 use Rattle.designs.specs.declared.Layout.{Layout}
 use Rattle.designs.specs.declared.Layout.the-variants.{Dense, Csc}
 use Rattle.designs.specs.declared.Shape.{Shape}
-use Rattle.runs.specs.Run.{State}
-use Rattle.runs.specs.Call.{Lent, fitFault, fitEnd, reportOf, fitCall, fitLeft}
-use Rattle.runs.specs.declared.Settings.{Settings}
+use Rattle.definition.specs.Run.{State}
+use Rattle.definition.specs.Call.{Lent, fitFault, fitEnd, reportOf, fitCall, fitLeft}
+use Rattle.definition.specs.declared.Settings.{Settings}
 use Rattle.two_runs.specs.Stages.{Ends}
 
 -- what is given, with other numbers

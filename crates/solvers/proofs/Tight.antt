@@ -3,9 +3,9 @@
 use mathlib.Core.Path.{_≡_, ap}
 use denote.Ref.{now}
 use Rattle.doubles.proofs.Tight.{coincide, same-refusal}
-use Rattle.runs.specs.Call.{Lent, fitOf}
-use Rattle.runs.specs.declared.Fit.{Fit}
-use Rattle.runs.specs.declared.Fit.the-variants as Fit
+use Rattle.definition.specs.Call.{Lent, fitOf}
+use Rattle.definition.specs.declared.Fit.{Fit}
+use Rattle.definition.specs.declared.Fit.the-variants as Fit
 use Rattle.solvers.proofs.coordinate_descent.Reads as coordinate-descent-reads
 
 -- a reading loses nothing

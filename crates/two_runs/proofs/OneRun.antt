@@ -11,12 +11,12 @@ use lib.Ieee.{Float, nan, eq}
 use Rattle.doubles.specs.Num.{#0}
 use Rattle.doubles.specs.Steps.{Stage, going, stopped, bad, upto}
 use Rattle.doubles.proofs.Laws.Signs.{sum-same}
-use Rattle.runs.specs.Epoch.{Task, Point, constant, fine, visited}
-use Rattle.runs.specs.Extrapolation.{U, entry, better, pointOf}
-use Rattle.runs.specs.Run.{State, turn, start, run}
-use Rattle.runs.specs.Call.{done, zeros, solved}
-use Rattle.runs.specs.declared.Settings.{Settings}
-use Rattle.runs.proofs.Laws.Ends.{solved-done}
+use Rattle.definition.specs.Epoch.{Task, Point, constant, fine, visited}
+use Rattle.definition.specs.Extrapolation.{U, entry, better, pointOf}
+use Rattle.definition.specs.Run.{State, turn, start, run}
+use Rattle.definition.specs.Call.{done, zeros, solved}
+use Rattle.definition.specs.declared.Settings.{Settings}
+use Rattle.definition.proofs.Laws.Ends.{solved-done}
 use Rattle.two_runs.specs.Stages.{both-going, both-stopped, both-bad, Both}
 use Rattle.two_runs.specs.Alike.{Pair, Weights, Rows, Respects, Alike}
 use Rattle.two_runs.proofs.TwoRuns.{two-turns}

@@ -12,12 +12,12 @@ use Rattle.doubles.specs.Num.{_or_}
 use Rattle.doubles.specs.Steps.{all, upto}
 use Rattle.doubles.proofs.Laws.Steps.{length-tab}
 use Rattle.doubles.specs.Answer.{answered}
-use Rattle.runs.specs.Epoch.{Task, Point, worst}
-use Rattle.runs.specs.Extrapolation.{keeps}
-use Rattle.runs.specs.declared.Settings.{Settings}
-use Rattle.runs.specs.Run.{Inner, gained, accelerated, enough, checked, checks, settled, epoch, epochs}
-use Rattle.runs.specs.Run.{State, chosenSet, iteration, turn, start, run}
-use Rattle.runs.specs.Call.{End, usableAt, solved, reportOf, answer}
+use Rattle.definition.specs.Epoch.{Task, Point, worst}
+use Rattle.definition.specs.Extrapolation.{keeps}
+use Rattle.definition.specs.declared.Settings.{Settings}
+use Rattle.definition.specs.Run.{Inner, gained, accelerated, enough, checked, checks, settled, epoch, epochs}
+use Rattle.definition.specs.Run.{State, chosenSet, iteration, turn, start, run}
+use Rattle.definition.specs.Call.{End, usableAt, solved, reportOf, answer}
 use Rattle.two_runs.specs.Stages.{Stages, both-going, both-stopped, both-bad, Both, Ends, both-untouched, both-given-up, both-done}
 use Rattle.two_runs.specs.Alike.{Pair, first, second, Points, FeatureSet, Rows, Respects, bare, rest, Alike}
 use Rattle.two_runs.proofs.Laws.Loops.{related, all-same, stages-map, upto-related, then-related, concluded-related}

@@ -7,15 +7,15 @@ use lib.ListN.{length, getD}
 use lib.Ieee.{Float, eq}
 use Rattle.doubles.specs.Num.{_⊗_, #0, at}
 use Rattle.doubles.specs.Steps.{sum}
-use Rattle.leaves.specs.declared.penalties.separable.Penalty.{Penalty}
+use Rattle.penalties.specs.declared.separable.Penalty.{Penalty}
 use Rattle.designs.specs.Design.{Design}
-use Rattle.runs.specs.Epoch as Epoch
-use Rattle.runs.specs.Epoch.{Task, Point, constant, violationOf, newWeight}
-use Rattle.runs.specs.Extrapolation as Extrapolation
-use Rattle.runs.specs.Extrapolation.{pointOf}
-use Rattle.runs.specs.Run.{Inner, State}
-use Rattle.runs.specs.Call.{zeros}
-use Rattle.runs.specs.declared.Settings.{Settings}
+use Rattle.definition.specs.Epoch as Epoch
+use Rattle.definition.specs.Epoch.{Task, Point, constant, violationOf, newWeight}
+use Rattle.definition.specs.Extrapolation as Extrapolation
+use Rattle.definition.specs.Extrapolation.{pointOf}
+use Rattle.definition.specs.Run.{Inner, State}
+use Rattle.definition.specs.Call.{zeros}
+use Rattle.definition.specs.declared.Settings.{Settings}
 
 -- ---- what is compared: two designs of one size, each with what was prepared of it and with its targets; penalty and settings are the same. `weight j`
 -- is to hold of the two weights of feature j, wherever they stand: in the weights, in a row that is kept, in a candidate, taken or not. `point` is to

@@ -1,8 +1,8 @@
 -- Two runs, and two calls, that end in the same way.
 use Prim.Native.Nat.{ℕ}
 use Rattle.doubles.specs.Steps.{Stage, going, stopped, bad}
-use Rattle.runs.specs.Run.{State}
-use Rattle.runs.specs.Call.{End, untouched, givenUp, done}
+use Rattle.definition.specs.Run.{State}
+use Rattle.definition.specs.Call.{End, untouched, givenUp, done}
 
 -- two runs in the same stage: G relates the states of those that go on, and E of those that stopped
 pub data Stages {A : Type 0} (G E : A → A → Type 0) : Stage A → Stage A → Type 0 where

@@ -13,8 +13,8 @@ use denote.Ref.{now}
 use Rattle.doubles.proofs.Tight.{coincide, one-number, one-verdict}
 use Rattle.doubles.specs.declared.Number.{Number}
 use Rattle.doubles.specs.declared.Verdict.{Verdict}
-use Rattle.runs.specs.Call.{Lent}
-use Rattle.runs.specs.declared.Fit.{Fit}
+use Rattle.definition.specs.Call.{Lent}
+use Rattle.definition.specs.declared.Fit.{Fit}
 use Rattle.solvers.proofs.Tight.{one-fit}
 use Rattle.views.specs.declared.CSCArray.{CSCArray}
 use Rattle.views.proofs.new as new

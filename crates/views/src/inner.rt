@@ -6,16 +6,16 @@ ghost use Rattle.doubles.specs.Answer.{numberOf, verdictOf};
 ghost use Rattle.designs.specs.Design.{cscShape};
 ghost use Rattle.designs.specs.Given.{given};
 ghost use Rattle.datafits.specs.Calls as calls;
-ghost use Rattle.runs.specs.Call as call;
+ghost use Rattle.definition.specs.Call as call;
 ghost use Rattle.views.specs.Check.{designFault};
+use definition::Fit;
+use definition::Settings;
 use designs::Feature;
 use designs::Layout;
 use designs::Shape;
 use designs::inner::admit;
 use doubles::Number;
 use doubles::Verdict;
-use runs::Fit;
-use runs::Settings;
 
 pub fn check<'a>(
     starts: &'a [u32],

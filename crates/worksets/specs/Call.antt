@@ -11,7 +11,7 @@ use Rattle.doubles.specs.Answer.{Outcome, refused, answered}
 use Rattle.designs.specs.Search.{firstOf, mark}
 use Rattle.doubles.specs.Answer.{Fault, none, unless, after, left}
 use Rattle.designs.specs.Checks.{told}
-use Rattle.runs.specs.WorkingSet.{isZero, size, workingSet, padded}
+use Rattle.definition.specs.WorkingSet.{isZero, size, workingSet, padded}
 use Rattle.worksets.specs.declared.WorkingSet.{WorkingSet}
 use Rattle.worksets.specs.declared.WorkingSet.the-variants as WorkingSet
 

@@ -8,7 +8,7 @@ ghost use lib.ListN.{length, set};
 ghost use Rattle.doubles.specs.Num as num;
 ghost use Rattle.doubles.specs.Steps.{tab};
 ghost use Rattle.designs.specs.Search.{firstOf, mark};
-ghost use Rattle.runs.specs.WorkingSet as def;
+ghost use Rattle.definition.specs.WorkingSet as def;
 ghost use Rattle.selection.specs.Inner.Heap.{Numbers};
 ghost use Rattle.worksets.specs.Call as calls;
 use designs::Found;

@@ -13,8 +13,8 @@ use Rattle.doubles.specs.Buffer.{put}
 use Rattle.doubles.proofs.Laws.Parts.{part-at}
 use Rattle.doubles.specs.Answer.{Outcome, refused, answered}
 use Rattle.designs.specs.Given.{given}
-use Rattle.runs.specs.Call.{Lent}
-use Rattle.runs.specs.declared.Report.{Report}
+use Rattle.definition.specs.Call.{Lent}
+use Rattle.definition.specs.declared.Report.{Report}
 use Rattle.files.specs.Call.{Problem, parsed, Places, places, placesSuffice, withRoom, readProblem, sizesOf, sizesAnswered, readCall, filledPlaces, readLeft}
 use Rattle.files.specs.declared.Sizes.{Sizes}
 use Rattle.listings.specs.Call.{writeCall, writeLeft}

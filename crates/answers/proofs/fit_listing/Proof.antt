@@ -5,7 +5,7 @@ use native.Mathlib.Nat.{le-of-eq, le-trans}
 use lib.ListN.{length}
 use lib.Seq.{length-take-le}
 use denote.Ref.{now}
-use Rattle.runs.specs.Call.{fitOf, lent}
+use Rattle.definition.specs.Call.{fitOf, lent}
 use Rattle.answers.proofs.Laws.Calls.{fit-listed}
 use Rattle.answers.specs.Printed.{problemFit, problemLeft}
 use Rattle.answers.specs.InPlaces.{problemIn}

@@ -11,7 +11,7 @@ use Rattle.doubles.specs.Num.{_⊕_, _⊗_, #0, at}
 use Rattle.doubles.specs.Steps.{sum, tab, steps}
 use Rattle.doubles.proofs.Laws.Steps.{tab-none, tab-here, tab-more, tab-all, length-tab, getD-tab, tab-same}
 use Rattle.designs.specs.Design.{Design, dense, moved, movedAll, extrapolated}
-use Rattle.columns.specs.RowFit.{rowFit}
+use Rattle.columns.specs.Inner.RowFit.{rowFit}
 
 -- a pass that changes each place by itself is a table
 module _ (h : ℕ → Float → Float) (l : List Float) where

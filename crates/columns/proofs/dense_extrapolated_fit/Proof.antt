@@ -8,7 +8,7 @@ use denote.Ref.{now}
 use Rattle.doubles.specs.Steps.{tab}
 use Rattle.doubles.proofs.Laws.Steps.{tab-none, tab-more, tab-all}
 use Rattle.designs.proofs.Laws.Layouts.{row-inside}
-use Rattle.columns.specs.RowFit.{rowFit}
+use Rattle.columns.specs.Inner.RowFit.{rowFit}
 use Rattle.columns.proofs.Laws.ByRows.{by-rows}
 use native.Mathlib.Omega.{arith}
 use borrow.Author.Needs.{needs}

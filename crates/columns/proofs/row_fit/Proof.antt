@@ -6,7 +6,7 @@ use denote.Ref.{now}
 use Rattle.doubles.specs.Num.{_⊗_, at}
 use Rattle.doubles.specs.Steps.{sum as total}
 use Rattle.doubles.proofs.Laws.Steps.{steps-none, steps-turn, steps-all}
-use Rattle.columns.specs.RowFit.{rowFit}
+use Rattle.columns.specs.Inner.RowFit.{rowFit}
 use native.Mathlib.Omega.{arith}
 use borrow.Author.Needs.{needs}
 use Rattle.columns.proofs.row_fit.Statement.{statement}

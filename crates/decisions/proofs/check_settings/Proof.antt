@@ -1,7 +1,7 @@
 -- `check_settings`: one test after the other, each behind those that passed. Assumes nothing.
 use mathlib.Core.Path.{_∙_}
 use borrow.Author.Tests.{le-leb, lt-leb}
-use Rattle.runs.specs.Call.{settingsFault}
+use Rattle.definition.specs.Call.{settingsFault}
 use borrow.Author.Needs.{needs}
 use Rattle.decisions.proofs.check_settings.Statement.{statement}
 use Rattle.decisions.proofs.check_settings.Tie as tie

@@ -1,5 +1,5 @@
 -- `depth_in_range`: the depth is looked at only with extrapolation on. Assumes nothing.
-use Rattle.runs.specs.Call.{depthLegal}
+use Rattle.definition.specs.Call.{depthLegal}
 use borrow.Author.Needs.{needs}
 use Rattle.decisions.proofs.depth_in_range.Statement.{statement}
 use Rattle.decisions.proofs.depth_in_range.Tie as tie

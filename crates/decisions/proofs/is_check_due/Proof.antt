@@ -1,6 +1,6 @@
 -- `is_check_due`: never at epoch 0. Assumes nothing.
 use Rattle.doubles.specs.Num.{_and_}
-use Rattle.runs.specs.Run.{checks}
+use Rattle.definition.specs.Run.{checks}
 use borrow.Author.Tests.{lt-ltb}
 use Rattle.doubles.proofs.Laws.Choice.{positive}
 use Rattle.decisions.proofs.is_check_due.Statement.{statement}

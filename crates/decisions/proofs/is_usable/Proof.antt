@@ -6,7 +6,7 @@ use Rattle.doubles.specs.Num.{at}
 use Rattle.doubles.specs.Steps.{all}
 use Rattle.doubles.proofs.Laws.Steps.{steps-none, steps-all, all-more, all-broken}
 use borrow.Author.Needs.{needs}
-use Rattle.runs.specs.Call.{usable}
+use Rattle.definition.specs.Call.{usable}
 use Rattle.decisions.proofs.is_usable.Statement.{statement}
 use Rattle.decisions.proofs.is_usable.Tie as tie
 

@@ -1,8 +1,8 @@
 -- `scratch_room`: by whether extrapolation is on. Assumes nothing.
 use native.Mathlib.Omega.{arith}
-use Rattle.runs.proofs.Laws.Settings.{shallow}
+use Rattle.definition.proofs.Laws.Settings.{shallow}
 use Rattle.decisions.proofs.Laws.Room.{room-small}
-use Rattle.runs.specs.Call.{scratchRoom}
+use Rattle.definition.specs.Call.{scratchRoom}
 use borrow.Author.Needs.{needs}
 use Rattle.decisions.proofs.scratch_room.Statement.{statement}
 use Rattle.decisions.proofs.scratch_room.Tie as tie

@@ -1,5 +1,5 @@
 -- `start_in_range`: both bounds. Assumes nothing.
-use Rattle.runs.specs.Call.{startLegal}
+use Rattle.definition.specs.Call.{startLegal}
 use borrow.Author.Needs.{needs}
 use Rattle.decisions.proofs.start_in_range.Statement.{statement}
 use Rattle.decisions.proofs.start_in_range.Tie as tie

@@ -9,7 +9,7 @@ use mathlib.Core.List.{List}
 use lib.ListN.{length, getD}
 use lib.Ieee.{Float, binary64, inFloat}
 use Rattle.designs.specs.Design.{dense, csc, laid}
-use Rattle.designs.specs.Sound.{Sound, Held}
+use Rattle.designs.specs.Inner.Sound.{Sound, Held}
 use Rattle.designs.specs.declared.Layout.{Layout}
 use Rattle.designs.specs.declared.Layout.the-variants.{Dense, Csc}
 

@@ -19,7 +19,7 @@ use Rattle.doubles.proofs.Laws.Verdict.{spared}
 use Rattle.designs.specs.Search.{mark}
 use Rattle.designs.proofs.Laws.Search.{unmarked, first-none, none-first}
 use Rattle.designs.proofs.Laws.Layouts.{row-below}
-use Rattle.designs.specs.Sound.{Rising, Sound, Held, Whole}
+use Rattle.designs.specs.Inner.Sound.{Rising, Sound, Held, Whole}
 use Rattle.designs.specs.Given.{Given}
 use Rattle.designs.specs.Checks.{told, lengths, sizes, sizedFault}
 use Rattle.designs.specs.Checks.{falls, badStart, badStarts, badRow, badColumn, badRows, cscFault, contents, admitted}

@@ -13,10 +13,10 @@ use Rattle.doubles.specs.Num.{finite, pick}
 use Rattle.doubles.specs.Steps.{all, bad}
 use Rattle.doubles.proofs.Laws.Steps.{upto-over}
 use Rattle.doubles.proofs.Laws.Ends.{first-fails, second-fails, neither-holds, all-fail}
-use Rattle.runs.specs.Epoch.{Task, Point, gradientOf, known, allKnown, knownIn, movedFinite, fine, visit, visits}
-use Rattle.runs.specs.Run.{Inner, accelerated, checked, settled, epoch, epochs, State, iteration, turn, start, run}
-use Rattle.runs.specs.Call.{givenUp, concluded, usable, usableAt, solved}
-use Rattle.runs.specs.declared.Settings.{Settings}
+use Rattle.definition.specs.Epoch.{Task, Point, gradientOf, known, allKnown, knownIn, movedFinite, fine, visit, visits}
+use Rattle.definition.specs.Run.{Inner, accelerated, checked, settled, epoch, epochs, State, iteration, turn, start, run}
+use Rattle.definition.specs.Call.{givenUp, concluded, usable, usableAt, solved}
+use Rattle.definition.specs.declared.Settings.{Settings}
 use Rattle.endings.specs.NotFinite as NotFinite
 use Rattle.endings.specs.NotFinite.{setAt, worstAt, difference}
 use Rattle.endings.specs.NotFinite.{NotFinite, Turns, Iterates, Epochs, Visited, Checked, Looked, at-check, at-visit, of-turn, of-epoch}

@@ -14,11 +14,11 @@ use Rattle.doubles.specs.Num.{#0, pick, _or_}
 use Rattle.doubles.specs.Steps.{all, Stage, going, stopped, bad, andThen}
 use Rattle.doubles.proofs.Laws.Steps.{all-each}
 use Rattle.doubles.proofs.Laws.Ends.{and-fails, or-fails, one-fails, going≢bad, stopped≢bad, going≢stopped, last-turn}
-use Rattle.runs.specs.Epoch.{Task, Point, constant, known, allKnown, knownIn, worstIn, movedFinite, fine, visited, visit, visits}
-use Rattle.runs.specs.Run.{Inner, accelerated, enough, checked, checks, settled, epoch, epochs, State, iteration, ends, turn, start, run}
-use Rattle.runs.specs.Call.{givenUp, usable, usableAt, solved}
-use Rattle.runs.specs.declared.Settings.{Settings}
-use Rattle.runs.proofs.Laws.Ends.{solved-given-up}
+use Rattle.definition.specs.Epoch.{Task, Point, constant, known, allKnown, knownIn, worstIn, movedFinite, fine, visited, visit, visits}
+use Rattle.definition.specs.Run.{Inner, accelerated, enough, checked, checks, settled, epoch, epochs, State, iteration, ends, turn, start, run}
+use Rattle.definition.specs.Call.{givenUp, usable, usableAt, solved}
+use Rattle.definition.specs.declared.Settings.{Settings}
+use Rattle.definition.proofs.Laws.Ends.{solved-given-up}
 use Rattle.endings.specs.NotFinite as NotFinite
 use Rattle.endings.specs.NotFinite.{setAt, worstAt, difference}
 use Rattle.endings.specs.NotFinite.{NotFinite, Turns, Iterates, Epochs, Visited, Checked, at-check, at-visit, of-turn, of-epoch}

@@ -9,7 +9,7 @@ use Rattle.doubles.specs.Num.{#0, at, finite, _or_}
 use Rattle.doubles.proofs.Laws.Steps.{all-each}
 use Rattle.doubles.proofs.Laws.Ends.{or-fails, neither-holds, Fails, one-fails, all-fail}
 use Rattle.designs.specs.Design.{Design, moved, finiteAt}
-use Rattle.runs.specs.Epoch.{movedFinite}
+use Rattle.definition.specs.Epoch.{movedFinite}
 
 module _ (X : Design) (j : ℕ) (d : Float) (fit : List Float) where
   -- whether the changed entry at the column's k-th sample is finite

@@ -14,10 +14,10 @@ use Rattle.doubles.proofs.Laws.Steps.{length-tab, getD-tab, set-place, all-each
 use Rattle.doubles.proofs.Laws.Finite.{zero-finite}
 use Rattle.designs.specs.Design.{moved, extrapolated}
 use Rattle.designs.proofs.Laws.Moved.{Sures, moved-elsewhere, moved-sure, zeros-sure, extrapolated-sure}
-use Rattle.runs.specs.Epoch.{Task, Point, newWeight, movedBy, movedFinite, fine, visited}
-use Rattle.runs.specs.Extrapolation.{allFinite, better, pointOf}
-use Rattle.runs.specs.Call.{zeros}
-use Rattle.runs.specs.declared.Settings.{Settings}
+use Rattle.definition.specs.Epoch.{Task, Point, newWeight, movedBy, movedFinite, fine, visited}
+use Rattle.definition.specs.Extrapolation.{allFinite, better, pointOf}
+use Rattle.definition.specs.Call.{zeros}
+use Rattle.definition.specs.declared.Settings.{Settings}
 use Rattle.two_runs.proofs.OneRun.{Keeps}
 use Rattle.endings.proofs.Laws.Changed.{changed-finite}
 

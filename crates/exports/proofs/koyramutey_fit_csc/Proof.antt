@@ -1,5 +1,5 @@
 -- `koyramutey_fit_csc`: the whole call with the shape and the settings that the numbers stand for, and its answer in numbers. Assumes nothing.
-use Rattle.codes.proofs.Laws.Codes.{called}
+use Rattle.plain_numbers.proofs.Laws.Codes.{called}
 use borrow.Author.Needs.{needs}
 use Rattle.exports.proofs.koyramutey_fit_csc.Statement.{statement}
 use Rattle.exports.proofs.koyramutey_fit_csc.Tie as tie

@@ -1,6 +1,6 @@
 -- `koyramutey_working_set`: the call's fault and size, told as numbers. Assumes nothing.
 use denote.Ref.{now}
-use Rattle.runs.specs.WorkingSet.{size}
+use Rattle.definition.specs.WorkingSet.{size}
 use Rattle.worksets.specs.Call.{wsFault, wsCall}
 use borrow.Author.Needs.{needs}
 use Rattle.exports.proofs.koyramutey_working_set.Statement.{statement}

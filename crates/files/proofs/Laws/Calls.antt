@@ -12,7 +12,7 @@ use Rattle.doubles.specs.Buffer.{put}
 use Rattle.doubles.proofs.Laws.Choice.{and-both}
 use Rattle.doubles.specs.Answer.{Outcome, refused, answered}
 use Rattle.designs.specs.declared.Shape.{Shape}
-use Rattle.runs.specs.declared.Settings.{Settings}
+use Rattle.definition.specs.declared.Settings.{Settings}
 use Rattle.files.specs.Problem.{readAll, headerShape, headerSettings, goodHeader}
 use Rattle.files.specs.Call.{problem, readWhole, parsed, Places, places, placesSuffice, readProblem, sizesOf, readCall, readLeft}
 use Rattle.files.specs.Places.{Header, Counted, Suffice, readWholeAt}

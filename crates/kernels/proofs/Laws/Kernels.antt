@@ -13,7 +13,7 @@ use Rattle.doubles.proofs.Laws.Choice.{and-both}
 use Rattle.doubles.proofs.Laws.Verdict.{spared}
 use Rattle.designs.specs.Checks.{sizes}
 use Rattle.designs.specs.Design.{design, denseShape, nothing, laid, dot, moved}
-use Rattle.designs.specs.Sound.{Held, Whole}
+use Rattle.designs.specs.Inner.Sound.{Held, Whole}
 use Rattle.designs.specs.declared.Shape.{Shape}
 use Rattle.designs.proofs.Laws.Passed.{sized, dense-values}
 use Rattle.kernels.specs.Kernels.{kernelFault, productLeft, updateLeft}

@@ -1,6 +1,6 @@
 -- `kernel_column_product_dense`: behind the tests, the column's function; refused, nothing. The verdict is told either way. Assumes nothing.
 use Rattle.doubles.proofs.Laws.Verdict.{stop-left, pass}
-use Rattle.codes.proofs.Laws.Codes.{same-told}
+use Rattle.plain_numbers.proofs.Laws.Codes.{same-told}
 use Rattle.kernels.specs.Kernels.{productLeft}
 use Rattle.kernels.proofs.Laws.Kernels.{ready, product-told}
 use borrow.Author.Needs.{needs}

@@ -13,7 +13,7 @@ use Rattle.doubles.specs.Buffer.{put}
 use Rattle.doubles.proofs.Laws.Choice.{and-both}
 use Rattle.doubles.specs.Answer.{Outcome, refused, answered}
 use Rattle.doubles.specs.Answer.{none, unless, after, left}
-use Rattle.runs.specs.declared.Report.{Report}
+use Rattle.definition.specs.declared.Report.{Report}
 use Rattle.listings.specs.Listing.{listed}
 use Rattle.listings.specs.Call.{writeFault, writeCall, writeLeft}
 use Rattle.listings.specs.Wrote.{Wrote}

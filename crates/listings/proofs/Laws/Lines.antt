@@ -11,7 +11,7 @@ use Rattle.doubles.specs.Num.{at}
 use Rattle.doubles.specs.Steps.{steps}
 use Rattle.doubles.proofs.Laws.Buffer.{put-none}
 use Rattle.doubles.proofs.Laws.Steps.{steps-more}
-use Rattle.runs.specs.declared.Report.{Report}
+use Rattle.definition.specs.declared.Report.{Report}
 use Rattle.listings.specs.Listing.{_and-then_, codes, digitCount, decimal, hex16, bitsOf, newline, labelled}
 use Rattle.listings.specs.Listing.{countLine, bitsLine, entryLine, entryLines, reportLines, listing, refusedLine}
 use Rattle.listings.specs.Wrote.{Room, Wrote}

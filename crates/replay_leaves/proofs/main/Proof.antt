@@ -1,5 +1,5 @@
 -- `replay_leaves::main` is safe and ends: what is kept holds at each record, and each record leaves fewer turns. Assumes nothing.
-use Rattle.vectors.specs.ProgressWithin.{ProgressWithin}
+use Rattle.list_reader.specs.ProgressWithin.{ProgressWithin}
 use borrow.Author.Needs.{needs}
 use Rattle.replay_leaves.proofs.main.Statement.{statement}
 use Rattle.replay_leaves.proofs.main.Tie as tie

@@ -13,7 +13,7 @@ use Rattle.doubles.specs.Inner.Order.{Behind, Each, OrderedFrom, is, count}
 use Rattle.doubles.proofs.Laws.Steps.{steps-more}
 use Rattle.doubles.proofs.Laws.Counts.{count-cons, each-none, each-cons, same-each}
 use Rattle.doubles.proofs.Laws.Sorted.{ordered-cons, ordered-head, ordered-tail}
-use Rattle.runs.specs.WorkingSet.{isZero, support, insert, others}
+use Rattle.definition.specs.WorkingSet.{isZero, support, insert, others}
 use Rattle.selection.specs.Inner.Heap.{ahead, Number, Numbers}
 use Rattle.selection.proofs.Laws.Order.{features, behind-larger, behind-later}
 

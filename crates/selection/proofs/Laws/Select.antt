@@ -17,7 +17,7 @@ use Rattle.doubles.specs.Steps.{steps}
 use Rattle.doubles.specs.Inner.Order.{Behind, Each, OrderedFrom, is, count, Same}
 use Rattle.doubles.proofs.Laws.Counts.{count-set, count-append, count-cons, count-one, each-none, each-cons, each-front, same-each, same-self}
 use Rattle.doubles.proofs.Laws.Sorted.{first-of}
-use Rattle.runs.specs.WorkingSet.{isZero, support, others}
+use Rattle.definition.specs.WorkingSet.{isZero, support, others}
 use Rattle.selection.specs.Inner.Heap.{ahead, Number, Numbers, Heap, offered, Chosen}
 use Rattle.selection.proofs.Laws.Order.{features}
 use Rattle.selection.proofs.Laws.Others.{others-length, others-count, number-of, others-known, others-ordered, share-out}

@@ -8,7 +8,7 @@ use lib.ListN.{length, getD, set}
 use lib.Ieee.{Float, lt}
 use Rattle.doubles.specs.Num.{at, pick, finite, _and_, _or_}
 use Rattle.doubles.specs.Inner.Order.{Behind, Each, Same}
-use Rattle.runs.specs.WorkingSet.{isZero, others}
+use Rattle.definition.specs.WorkingSet.{isZero, others}
 
 -- ---- the order
 -- a stands ahead of b: by a larger violation, or, where neither is larger, by a lower index

@@ -10,7 +10,7 @@ use Rattle.doubles.proofs.Laws.Turned.{turned-add, turned-mul}
 use Rattle.doubles.proofs.Laws.Compare.{finite-turned, eq-turned}
 use Rattle.doubles.proofs.Laws.Signs.{zero-turned, sum-turned, signs-at, signs-set}
 use Rattle.designs.specs.Design.{Design, dot, squares, moved, finiteAt}
-use Rattle.runs.specs.Epoch.{movedBy, movedFinite}
+use Rattle.definition.specs.Epoch.{movedBy, movedFinite}
 use Rattle.two_runs.proofs.Laws.Loops.{related, all-same, steps-related}
 use Rattle.signs.proofs.Laws.Exact.{unlike-back, sum-exact}
 

@@ -15,7 +15,7 @@ use Rattle.doubles.proofs.Laws.Turned.{turned-mul}
 use Rattle.doubles.proofs.Laws.Compare.{finite-turned}
 use Rattle.doubles.proofs.Laws.Signs.{zero-turned, sum-turned, signs-at, signs-length}
 use Rattle.doubles.proofs.Laws.Zero.{sum-never, same-exact}
-use Rattle.runs.specs.Extrapolation.{allFinite}
+use Rattle.definition.specs.Extrapolation.{allFinite}
 use Rattle.two_runs.proofs.Laws.Loops.{all-same}
 
 -- ---- signs

@@ -16,8 +16,8 @@ use Rattle.designs.specs.Checks.{lengths, sizes, notFinite, numbers, cscFault, 
 use Rattle.designs.specs.declared.Found.the-variants.{Nowhere}
 use Rattle.designs.specs.declared.Layout.{Layout}
 use Rattle.designs.specs.declared.Layout.the-variants.{Dense, Csc}
-use Rattle.runs.specs.Call.{Lent, fitFault}
-use Rattle.runs.specs.declared.Settings.{Settings}
+use Rattle.definition.specs.Call.{Lent, fitFault}
+use Rattle.definition.specs.declared.Settings.{Settings}
 use Rattle.signs.specs.Turning.{withNumbers}
 
 place-same : {s : ℕ → Bool} {xs xs' : List Float} → Signs s xs xs' → (from : ℕ) → notFinite xs from ≡ notFinite xs' from

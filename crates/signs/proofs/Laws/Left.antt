@@ -13,13 +13,13 @@ use Rattle.doubles.proofs.Laws.Steps.{length-tab}
 use Rattle.designs.specs.Design.{Design, moved}
 use Rattle.designs.specs.declared.Shape.{Shape}
 use Rattle.designs.proofs.Laws.Moved.{moved-length, extrapolated-sure}
-use Rattle.runs.specs.Epoch.{Task, Point, movedBy, visited}
-use Rattle.runs.specs.Extrapolation.{pointOf}
-use Rattle.runs.specs.Run.{State}
-use Rattle.runs.specs.Call.{Lent, End, done, solved, filled, buffers}
-use Rattle.runs.specs.declared.Settings.{Settings}
-use Rattle.runs.proofs.Laws.Ends.{begun}
-use Rattle.runs.proofs.Laws.Left.{left-weight, left-fit}
+use Rattle.definition.specs.Epoch.{Task, Point, movedBy, visited}
+use Rattle.definition.specs.Extrapolation.{pointOf}
+use Rattle.definition.specs.Run.{State}
+use Rattle.definition.specs.Call.{Lent, End, done, solved, filled, buffers}
+use Rattle.definition.specs.declared.Settings.{Settings}
+use Rattle.definition.proofs.Laws.Ends.{begun}
+use Rattle.definition.proofs.Laws.Left.{left-weight, left-fit}
 use Rattle.two_runs.specs.Stages.{Ends, both-untouched, both-given-up, both-done}
 use Rattle.two_runs.proofs.OneRun.{Keeps, solved-keeps}
 use Rattle.signs.specs.Turning.{SameRun, SameLeft}

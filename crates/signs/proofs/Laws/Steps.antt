@@ -17,15 +17,15 @@ use Rattle.doubles.proofs.Laws.Compare.{finite-turned, eq-turned}
 use Rattle.doubles.proofs.Laws.Signs.{zero-turned, turned-times, sum-turned, signs-at, signs-length}
 use Rattle.doubles.proofs.Laws.Below.{div-not-below}
 use Rattle.doubles.proofs.Laws.Steps.{all-each}
-use Rattle.leaves.specs.Odd.{Odd}
+use Rattle.penalties.specs.Odd.{Odd}
 use Rattle.designs.proofs.Laws.Gradients.{gradient-turned}
 use Rattle.designs.specs.Design.{Design, lipschitz, prepared, movedAll, extrapolated, squaredError, datafit}
-use Rattle.runs.specs.Epoch.{Point, constant, gradientOf, violationOf, known, newWeight, fine, visited}
-use Rattle.runs.specs.Extrapolation.{U, entry, objectiveOf, objective, better, pointOf}
-use Rattle.runs.specs.Run.{State}
-use Rattle.runs.specs.Call.{usable, usableAt, solved, reportOf}
-use Rattle.runs.specs.declared.Report.{Report}
-use Rattle.runs.specs.declared.Settings.{Settings}
+use Rattle.definition.specs.Epoch.{Point, constant, gradientOf, violationOf, known, newWeight, fine, visited}
+use Rattle.definition.specs.Extrapolation.{U, entry, objectiveOf, objective, better, pointOf}
+use Rattle.definition.specs.Run.{State}
+use Rattle.definition.specs.Call.{usable, usableAt, solved, reportOf}
+use Rattle.definition.specs.declared.Report.{Report}
+use Rattle.definition.specs.declared.Settings.{Settings}
 use Rattle.two_runs.specs.Stages.{Ends}
 use Rattle.two_runs.specs.Alike.{Pair, first, second, Weights, Points, FeatureSet, Rows, Respects, Alike}
 use Rattle.two_runs.proofs.Laws.Loops.{steps-related, ends-map}

@@ -19,18 +19,18 @@ use Rattle.doubles.proofs.Laws.Choice.{and-both}
 use Rattle.doubles.proofs.Laws.Verdict.{stop, pass}
 use Rattle.designs.specs.Given.{Given}
 use Rattle.designs.specs.declared.Shape.{Shape}
-use Rattle.runs.specs.Call.{scratchRoom, Lent, lent, roomy, fitFault, fitted, End, untouched, givenUp, done, fitEnd, reportOf, answer, zeros, filled}
-use Rattle.runs.specs.Call.{buffers, fitCall, fitLeft}
-use Rattle.runs.specs.declared.Settings.{Settings}
-use Rattle.runs.specs.declared.Fit.{Fit}
-use Rattle.runs.specs.declared.Fit.the-variants as Fit
-use Rattle.runs.specs.declared.Report.{Report}
-use Rattle.runs.proofs.Laws.Passed.{passed}
-use Rattle.inner_loops.specs.Reading.{Ready}
-use Rattle.loops.specs.Reading.{endOf, setsAt}
-use Rattle.loops.specs.declared.Totals.{Totals}
-use Rattle.loops.specs.declared.RunEnd.{RunEnd}
-use Rattle.loops.specs.declared.RunEnd.the-variants as RunEnd
+use Rattle.definition.specs.Call.{scratchRoom, Lent, lent, roomy, fitFault, fitted, End, untouched, givenUp, done, fitEnd, reportOf, answer, zeros, filled}
+use Rattle.definition.specs.Call.{buffers, fitCall, fitLeft}
+use Rattle.definition.specs.declared.Settings.{Settings}
+use Rattle.definition.specs.declared.Fit.{Fit}
+use Rattle.definition.specs.declared.Fit.the-variants as Fit
+use Rattle.definition.specs.declared.Report.{Report}
+use Rattle.definition.proofs.Laws.Passed.{passed}
+use Rattle.epochs.specs.Inner.Reading.{Ready}
+use Rattle.iterations.specs.Inner.Reading.{endOf, setsAt}
+use Rattle.iterations.specs.declared.Totals.{Totals}
+use Rattle.iterations.specs.declared.RunEnd.{RunEnd}
+use Rattle.iterations.specs.declared.RunEnd.the-variants as RunEnd
 use Rattle.solvers.specs.Inner.Left.{Leaves, reportFrom}
 
 -- ---- after the run

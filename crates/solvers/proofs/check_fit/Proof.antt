@@ -3,7 +3,7 @@ use mathlib.Core.Path.{sym, _∙_}
 use Rattle.doubles.proofs.Laws.Choice.{and-both}
 use Rattle.doubles.proofs.Laws.Verdict.{stop, pass}
 use Rattle.designs.proofs.Laws.Passed.{sized}
-use Rattle.runs.specs.Call.{fitFault}
+use Rattle.definition.specs.Call.{fitFault}
 use borrow.Author.Needs.{needs}
 use Rattle.solvers.proofs.check_fit.Statement.{statement}
 use Rattle.solvers.proofs.check_fit.Tie as tie

@@ -2,7 +2,7 @@
 use mathlib.Core.Path.{ap, _∙_}
 use Prim.Native.Nat.{ℕ}
 use Rattle.doubles.specs.Steps.{tab}
-use Rattle.runs.specs.Call.{zeros}
+use Rattle.definition.specs.Call.{zeros}
 use Rattle.solvers.proofs.Laws.Calls.{run-done, run-given-up}
 use borrow.Author.Needs.{needs}
 use Rattle.solvers.proofs.fit_inside.Statement.{statement}

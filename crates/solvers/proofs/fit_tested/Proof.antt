@@ -5,7 +5,7 @@ use lib.Seq.{length-take-le}
 use denote.Ref.{now}
 use Rattle.doubles.proofs.Laws.Buffer.{put-front}
 use Rattle.designs.specs.Given.{given}
-use Rattle.runs.specs.Call.{lent, fitted}
+use Rattle.definition.specs.Call.{lent, fitted}
 use Rattle.solvers.proofs.Laws.Calls.{buffers-left, rooms, run-ready}
 use borrow.Author.Needs.{needs}
 use Rattle.solvers.proofs.fit_tested.Statement.{statement}

@@ -4,9 +4,9 @@ use mathlib.Core.List.{List}
 use lib.Ieee.{Float, le}
 use Rattle.doubles.specs.Num.{pick}
 use Rattle.designs.specs.declared.Shape.{Shape}
-use Rattle.runs.specs.Call.{End, untouched, givenUp, done, zeros}
-use Rattle.runs.specs.declared.Report.{Report}
-use Rattle.loops.specs.declared.Totals.{Totals}
+use Rattle.definition.specs.Call.{End, untouched, givenUp, done, zeros}
+use Rattle.definition.specs.declared.Report.{Report}
+use Rattle.iterations.specs.declared.Totals.{Totals}
 
 -- weights and fit; a run that was begun is never untouched
 abbrev pub Leaves : Shape → End → List Float → List Float → Type 0

@@ -9,8 +9,8 @@ use Rattle.doubles.specs.Num.{pick, _and_, larger}
 use Rattle.doubles.specs.Steps.{steps, all, largest, Stage, going, next, upto, andThen}
 use Rattle.doubles.proofs.Laws.Steps.{steps-same}
 use Rattle.doubles.specs.Answer.{refused, answered, Fault, none}
-use Rattle.runs.specs.Run.{State}
-use Rattle.runs.specs.Call.{End, concluded, behind}
+use Rattle.definition.specs.Run.{State}
+use Rattle.definition.specs.Call.{End, concluded, behind}
 use Rattle.two_runs.specs.Stages.{Stages, both-going, both-stopped, both-bad, Both, Ends, both-untouched, both-given-up, both-done}
 
 -- ---- choices by one test; each branch may know that it was taken

@@ -15,10 +15,10 @@ use Rattle.doubles.specs.Num.{at}
 use Rattle.doubles.proofs.Laws.Buffer.{length-put, put-before, put-in}
 use Rattle.doubles.proofs.Laws.Choice.{and-both}
 use Rattle.doubles.proofs.Laws.Steps.{tab-same, length-tab, getD-tab}
-use Rattle.systems.specs.Elimination.{Matrix, regular, readOff, eliminated}
-use Rattle.runs.specs.Epoch.{Point}
-use Rattle.runs.specs.Extrapolation.{gathered, keptNow, systemRow, system, coefficients, combined, candidate}
-use Rattle.runs.specs.Extrapolation.{Tried, keeps, chosen, pointOf, candidateOf, fromSystem, extrapolate, due, tried}
+use Rattle.elimination.specs.Elimination.{Matrix, regular, readOff, eliminated}
+use Rattle.definition.specs.Epoch.{Point}
+use Rattle.definition.specs.Extrapolation.{gathered, keptNow, systemRow, system, coefficients, combined, candidate}
+use Rattle.definition.specs.Extrapolation.{Tried, keeps, chosen, pointOf, candidateOf, fromSystem, extrapolate, due, tried}
 use Rattle.two_runs.specs.Alike.{Pair, first, second, Weights, Points, FeatureSet, Rows, Respects}
 use Rattle.two_runs.proofs.Laws.Loops.{related, steps-related}
 use Rattle.two_runs.proofs.Laws.Points.{weights-set, weights-zero}

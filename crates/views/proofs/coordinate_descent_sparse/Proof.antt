@@ -20,10 +20,10 @@ use denote.Slice.{slice-vals, shr-slice-tells, shr-slice-lawful, mut-slice-tells
 use denote.Triple.Statement.{Triple}
 use denote.Enum.Laws as EL
 use denote.Struct.Laws as LL
-use Rattle.runs.proofs.Settings as Settings
-use Rattle.runs.proofs.Settings.Laws as Settings′
-use Rattle.runs.proofs.Fit as Fit
-use Rattle.runs.proofs.Fit.Laws as Fit′
+use Rattle.definition.proofs.Settings as Settings
+use Rattle.definition.proofs.Settings.Laws as Settings′
+use Rattle.definition.proofs.Fit as Fit
+use Rattle.definition.proofs.Fit.Laws as Fit′
 use Rattle.views.proofs.Laws.Steps.{copied, sets, freed}
 use Rattle.views.proofs.Laws.Thin.{others, Call, Promise, Callee, passed, entry, Walks, calls-apart, thin-meets}
 use Rattle.views.proofs.inner.coordinate_descent.Symbol as callee

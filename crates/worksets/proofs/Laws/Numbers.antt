@@ -8,7 +8,7 @@ use Rattle.doubles.specs.Num.{#0, at, finite, _and_, _or_}
 use Rattle.designs.specs.Search.{firstOf, mark}
 use Rattle.designs.specs.declared.Found.the-variants.{Nowhere}
 use Rattle.designs.proofs.Laws.Search.{first-none, unmarked}
-use Rattle.runs.specs.WorkingSet.{isZero}
+use Rattle.definition.specs.WorkingSet.{isZero}
 use Rattle.worksets.specs.Call.{badViolation}
 use Rattle.selection.specs.Inner.Heap.{Numbers}
 

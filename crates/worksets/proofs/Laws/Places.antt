@@ -13,7 +13,7 @@ use borrow.Author.Tests.{lt-ltb, le-ltb}
 use Rattle.doubles.specs.Num.{pick}
 use Rattle.doubles.specs.Steps.{steps, tab}
 use Rattle.doubles.proofs.Laws.Parts.{same-drop, same-first}
-use Rattle.runs.specs.WorkingSet.{isZero, smaller, greater, support, size, others, workingSet, padded}
+use Rattle.definition.specs.WorkingSet.{isZero, smaller, greater, support, size, others, workingSet, padded}
 use Rattle.selection.proofs.Laws.Others.{share-out}
 use Rattle.worksets.proofs.Laws.Sets.{support-more, support-few, size-most, size-least, workingSet-parts, length-workingSet}
 

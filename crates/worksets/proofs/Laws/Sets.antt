@@ -16,7 +16,7 @@ use Rattle.doubles.specs.Steps.{steps}
 use Rattle.doubles.specs.Inner.Order.{Each}
 use Rattle.doubles.proofs.Laws.Steps.{steps-more}
 use Rattle.doubles.proofs.Laws.Counts.{each-none, each-cons, each-append, each-take}
-use Rattle.runs.specs.WorkingSet.{isZero, smaller, greater, support, size, others, workingSet}
+use Rattle.definition.specs.WorkingSet.{isZero, smaller, greater, support, size, others, workingSet}
 use Rattle.selection.proofs.Laws.Others.{share-out, others-each}
 
 -- ---- one feature more

@@ -15,7 +15,7 @@ use Rattle.doubles.specs.Answer.{Outcome, refused, answered}
 use Rattle.doubles.proofs.Laws.Choice.{and-both}
 use Rattle.doubles.proofs.Laws.Buffer.{put-front}
 use Rattle.doubles.specs.Answer.{refused, none}
-use Rattle.runs.specs.WorkingSet.{size, workingSet, padded}
+use Rattle.definition.specs.WorkingSet.{size, workingSet, padded}
 use Rattle.worksets.specs.Call.{wsFault, wsCall, wsLeft}
 use Rattle.worksets.proofs.Laws.Numbers.{numbers-of}
 use borrow.Author.Needs.{needs}

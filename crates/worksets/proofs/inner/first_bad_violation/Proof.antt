@@ -12,7 +12,7 @@ use Rattle.designs.proofs.Laws.Search.{mark-on, mark-here}
 use Rattle.designs.specs.declared.Found.the-variants.{Nowhere}
 use Rattle.doubles.proofs.Laws.Steps.{steps-none, steps-all}
 use Rattle.worksets.specs.Call.{badViolation}
-use Rattle.runs.specs.WorkingSet.{isZero}
+use Rattle.definition.specs.WorkingSet.{isZero}
 use borrow.Author.Needs.{needs}
 use Rattle.worksets.proofs.inner.first_bad_violation.Statement.{statement}
 use Rattle.worksets.proofs.inner.first_bad_violation.Tie as tie

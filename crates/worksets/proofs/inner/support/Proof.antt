@@ -3,7 +3,7 @@ use mathlib.Core.Path.{_≡_, refl, ap, _∙_}
 use Prim.Native.Nat.{_≤_, _-_}
 use lib.ListN.{length}
 use Rattle.doubles.proofs.Laws.Steps.{length-tab}
-use Rattle.runs.specs.WorkingSet.{support, padded}
+use Rattle.definition.specs.WorkingSet.{support, padded}
 use Rattle.worksets.proofs.Laws.Places.{support-none, support-start, support-room, support-count, support-turn, support-all}
 use borrow.Author.Needs.{needs}
 use Rattle.worksets.proofs.inner.support.Statement.{statement}

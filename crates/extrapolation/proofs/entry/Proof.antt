@@ -1,0 +1,55 @@
+-- `entry`: the invariant is the sum over the differences passed. Assumes nothing.
+use mathlib.Core.Path.{_≡_}
+use Prim.Native.Nat.{_≤_, _-_}
+use Rattle.doubles.specs.Num.{_⊗_}
+use Rattle.doubles.specs.Steps.{sum}
+use Rattle.doubles.proofs.Laws.Steps.{steps-none, steps-turn, steps-all}
+use Rattle.definition.specs.Extrapolation.{U, entry}
+use borrow.Author.Needs.{needs}
+use Rattle.extrapolation.proofs.entry.Statement.{statement}
+use Rattle.extrapolation.proofs.entry.Tie as tie
+
+abbrev Inv-loop : tie.InvT-loop
+Inv-loop kept shape a b s₀ k₀ s k = (k ≤ shape .depth) × (s ≡ sum (λ i. U (shape .p) kept i a ⊗ U (shape .p) kept i b) k)
+
+abbrev μ-loop : tie.MeasureT-loop
+μ-loop kept shape a b s₀ k₀ s k = shape .depth - k
+
+loop-holds : tie.Need-loop-holds Inv-loop μ-loop
+loop-holds c = (search needs, steps-none _ _)
+
+difference-requires : tie.Need-difference-requires Inv-loop μ-loop
+difference-requires c κs = search needs
+
+difference-requires-2 : tie.Need-difference-requires-2 Inv-loop μ-loop
+difference-requires-2 c κs = search needs
+
+add-k : tie.Need-add-k Inv-loop μ-loop
+add-k c = search needs
+
+loop-less : tie.Need-loop-less Inv-loop μ-loop
+loop-less c = search needs
+
+loop-again : tie.Need-loop-again Inv-loop μ-loop
+loop-again c = (
+  search needs,
+  steps-turn _ _ _ _ _ (c .before .before .before .before .loop .inv .1) (rw (c .before .difference .ensures, c .difference2 .ensures)),
+)
+
+returns : tie.Need-returns Inv-loop μ-loop
+unfolding entry
+returns c = steps-all _ _ _ _ _ (c .before .before .loop .inv .1) (c .before .before .loop .inv .0) (c .if1 .left)
+
+pub entry-spec : {M : Type 1} → statement M
+entry-spec =
+    tie.close
+    (tie.spec
+    Inv-loop
+    μ-loop
+    loop-holds
+    difference-requires
+    difference-requires-2
+    add-k
+    loop-less
+    loop-again
+    returns)

@@ -1,0 +1,426 @@
+// Inner functions of the extrapolation. Of the scratch, `kept` holds K+1 rows of p places: row r has the working set's weights, in its order,
+// from place r·p on.
+ghost use mathlib.Core.Path.{_≡_};
+ghost use Prim.Native.Nat.{ℕ, suc, _+_, _*_, _<_, _≤_};
+ghost use lib.Ieee.{lt};
+ghost use lib.ListN.{length, getD, take};
+ghost use Rattle.doubles.specs.Num as num;
+ghost use Rattle.doubles.specs.Steps.{sum};
+ghost use Rattle.doubles.specs.Buffer.{put};
+ghost use Rattle.designs.specs.Design as def;
+ghost use Rattle.designs.specs.Given.{given};
+ghost use Rattle.definition.specs.Extrapolation as ext;
+ghost use Rattle.extrapolation.specs.Inner.Places as places;
+use columns::all_finite;
+use columns::clear;
+use columns::extrapolated_fit;
+use columns::feature_of;
+use columns::set_weight;
+use columns::weight;
+use designs::Shape;
+use elimination::inner::eliminate;
+use elimination::inner::is_regular;
+use elimination::inner::read_off;
+use penalties::inner::value as penalty_value;
+use penalties::separable::Penalty;
+use quadratic::value as datafit_value;
+
+// The depth K, and the length of a row of what is kept.
+pub struct Kept {
+    pub depth: usize,
+    pub p: usize,
+}
+
+// ---- the system
+
+// Row difference k at place a.
+fn difference(kept: &[f64], shape: Kept, k: usize, a: usize) -> f64
+    requires { ⌜ (k < shape .depth) × (a < shape .p) × (suc (shape .depth) * shape .p ≤ length (now kept)) ⌝ }
+    ensures { λ r. ⌜ r ≡ ext.U (shape .p) (now (kept .entry)) k a ⌝ }
+{
+    let p = shape.p;
+    kept[(k + 1) * p + a] - kept[k * p + a]
+}
+
+// The sum over k of U[k,a]·U[k,b].
+fn entry(kept: &[f64], shape: Kept, a: usize, b: usize) -> f64
+    requires { ⌜ (a < shape .p) × (b < shape .p) × (suc (shape .depth) * shape .p ≤ length (now kept)) ⌝ }
+    ensures { λ r. ⌜ r ≡ ext.entry (shape .depth) (shape .p) (now (kept .entry)) a b ⌝ }
+{
+    let mut s = 0.0;
+    let mut k = 0;
+    while k < shape.depth {
+        s = s + difference(kept, shape, k, a) * difference(kept, shape, k, b);
+        k += 1;
+    }
+    s
+}
+
+fn system_row(kept: &[f64], shape: Kept, a: usize) -> [f64; 11]
+    requires { ⌜ (a < shape .p) × (shape .depth ≤ shape .p) × (shape .depth ≤ 10) × (suc (shape .depth) * shape .p ≤ length (now kept)) ⌝ }
+    ensures { λ r. ⌜ r ≡ ext.systemRow (shape .depth) (shape .p) (now (kept .entry)) a ⌝ }
+{
+    let depth = shape.depth;
+    let mut row = [0.0; 11];
+    let mut b = 0;
+    while b < depth {
+        row[b] = entry(kept, shape, a, b);
+        b += 1;
+    }
+    row[depth] = 1.0;
+    row
+}
+
+fn system(kept: &[f64], shape: Kept) -> [[f64; 11]; 10]
+    requires { ⌜ (shape .depth ≤ shape .p) × (shape .depth ≤ 10) × (suc (shape .depth) * shape .p ≤ length (now kept)) ⌝ }
+    ensures { λ r. ⌜ r ≡ ext.system (shape .depth) (shape .p) (now (kept .entry)) ⌝ }
+{
+    let mut m = [[0.0; 11]; 10];
+    let mut a = 0;
+    while a < shape.depth {
+        let row = system_row(kept, shape, a);
+        m[a] = row;
+        a += 1;
+    }
+    m
+}
+
+// ---- the candidate
+
+fn total(z: [f64; 10], depth: usize) -> f64
+    requires { ⌜ depth ≤ 10 ⌝ }
+    ensures { λ r. ⌜ r ≡ sum (num.at z) depth ⌝ }
+{
+    let mut s = 0.0;
+    let mut k = 0;
+    while k < depth {
+        s = s + z[k];
+        k += 1;
+    }
+    s
+}
+
+// c = z/Σz
+fn coefficients(z: [f64; 10], depth: usize) -> [f64; 10]
+    requires { ⌜ depth ≤ 10 ⌝ }
+    ensures { λ r. ⌜ r ≡ ext.coefficients depth z ⌝ }
+{
+    let s = total(z, depth);
+    let mut c = [0.0; 10];
+    let mut k = 0;
+    while k < depth {
+        c[k] = z[k] / s;
+        k += 1;
+    }
+    c
+}
+
+// Place i of the candidate: the sum of c_k·row_k over the first K rows.
+fn combined(kept: &[f64], shape: Kept, c: [f64; 10], i: usize) -> f64
+    requires { ⌜ (i < shape .p) × (shape .depth ≤ 10) × (suc (shape .depth) * shape .p ≤ length (now kept)) ⌝ }
+    ensures { λ r. ⌜ r ≡ ext.combined (shape .depth) (shape .p) (now (kept .entry)) c i ⌝ }
+{
+    let p = shape.p;
+    let mut s = 0.0;
+    let mut k = 0;
+    while k < shape.depth {
+        s = s + c[k] * kept[k * p + i];
+        k += 1;
+    }
+    s
+}
+
+// The candidate takes the place of the weights, zero outside the working set.
+fn write_candidate(kept: &[f64], shape: Kept, c: [f64; 10], ws: &[u32], w: &mut [f64])
+    requires { ⌜ ((k : ℕ) → k < length (now ws) → getD (now ws) k 0 < shape .p) × (length (now w) ≡ shape .p) × (length (now ws) ≤ shape .p)
+        × (shape .depth ≤ 10) × (suc (shape .depth) * shape .p ≤ length (now kept)) ⌝ }
+    ensures { λ _. ⌜ now (w .exit) ≡ ext.candidate (shape .depth) (shape .p) (now (ws .entry)) (now (kept .entry)) c ⌝ }
+{
+    clear(w);
+    let mut i = 0;
+    while i < ws.len() {
+        let feature = feature_of(ws, i);
+        set_weight(w, feature, combined(kept, shape, c, i));
+        i += 1;
+    }
+}
+
+// ---- which point is better
+
+fn objective(y: &[f64], penalty: Penalty, w: &[f64], fit: &[f64]) -> f64
+    requires { ⌜ (length (now y) ≤ 65536) × (length (now y) ≤ length (now fit)) ⌝ }
+    ensures { λ r. ⌜ r ≡ ext.objectiveOf penalty (now (y .entry)) (now (w .entry)) (now (fit .entry)) ⌝ }
+{
+    datafit_value(y, fit) + penalty_value(penalty, w)
+}
+
+// Strictly smaller objective, and finite.
+fn is_better(y: &[f64], penalty: Penalty, w: &[f64], fit: &[f64], before: f64) -> bool
+    requires { ⌜ (length (now y) ≤ 65536) × (length (now y) ≤ length (now fit)) ⌝ }
+    ensures { λ r. ⌜ (let smaller = lt (ext.objectiveOf penalty (now (y .entry)) (now (w .entry)) (now (fit .entry))) before in
+        r ≡ num._and_ smaller (num._and_ (ext.allFinite (now (w .entry))) (ext.allFinite (now (fit .entry))))) ⌝ }
+{
+    if objective(y, penalty, w, fit) < before {} else {
+        return false;
+    }
+    if all_finite(w) {} else {
+        return false;
+    }
+    all_finite(fit)
+}
+
+// The places of one slice become those of another.
+fn copy(from: &[f64], to: &mut [f64])
+    requires { ⌜ length (now to) ≡ length (now from) ⌝ }
+    ensures { λ _. ⌜ now (to .exit) ≡ now (from .entry) ⌝ }
+{
+    let mut i = 0;
+    while i < to.len() {
+        to[i] = from[i];
+        i += 1;
+    }
+}
+
+// ---- the step
+
+// The working set's weights become the row of what is kept that begins at base.
+fn keep(ws: &[u32], w: &[f64], base: usize, kept: &mut [f64])
+    requires { ⌜ ((k : ℕ) → k < length (now ws) → getD (now ws) k 0 < length (now w)) × (base + length (now ws) ≤ length (now kept)) ⌝ }
+    ensures { λ _. ⌜ now (kept .exit) ≡ put (now (kept .entry)) base (ext.gathered (now (ws .entry)) (now (w .entry))) ⌝ }
+{
+    let mut i = 0;
+    while i < ws.len() {
+        kept[base + i] = weight(w, feature_of(ws, i));
+        i += 1;
+    }
+}
+
+// Where the parts of the scratch begin that the extrapolation uses: behind constants, X'y and violations come K+1 rows of p places, K rows that
+// stay zero (the differences are taken where they are used), the weights as they were, and the candidate's fit.
+pub struct Parts {
+    pub kept: usize,
+    pub until: usize,
+    pub old: usize,
+    pub fit: usize,
+    pub end: usize,
+}
+
+fn lay_out(n: usize, shape: Kept) -> Parts
+    requires { ⌜ (shape .depth ≤ 10) × (shape .p ≤ 8192) × (n ≤ 65536) ⌝ }
+    ensures { λ r. ⌜ (r .kept ≡ 3 * shape .p) × (r .until ≡ r .kept + suc (shape .depth) * shape .p) × (r .old ≡ (2 * shape .depth + 4) * shape .p)
+        × (r .fit ≡ r .old + shape .p) × (r .end ≡ r .fit + n) ⌝ }
+{
+    let kept = 3 * shape.p;
+    let old = (2 * shape.depth + 4) * shape.p;
+    let fit = old + shape.p;
+    Parts {
+        kept: kept,
+        until: kept + (shape.depth + 1) * shape.p,
+        old: old,
+        fit: fit,
+        end: fit + n,
+    }
+}
+
+// The weights are put by, the candidate takes their place, and its fit is computed.
+fn make_candidate(
+    shape: Shape,
+    starts: &[u32],
+    rows: &[u32],
+    values: &[f64],
+    depth: usize,
+    c: [f64; 10],
+    ws: &[u32],
+    w: &mut [f64],
+    scratch: &mut [f64],
+)
+    requires { ⌜ places.Sized shape (now starts) (now rows) (now values) depth (now ws) (now w) (now scratch) ⌝ }
+    ensures { λ _. ⌜ (let X = def.design shape (now (starts .entry)) (now (rows .entry)) (now (values .entry)) in
+        let new = def.extrapolated X (now (ws .entry)) (now (w .exit)) in
+        (now (w .exit) ≡ ext.candidate depth (shape .p) (now (ws .entry)) (places.keptIn shape depth (now (scratch .entry))) c)
+        × (now (scratch .exit) ≡ put (put (now (scratch .entry)) (places.oldAt shape depth) (now (w .entry))) (places.fitAt shape depth) new)
+        × (length new ≡ shape .n)) ⌝ }
+{
+    let kept = Kept {
+        depth: depth,
+        p: shape.p,
+    };
+    let at = lay_out(shape.n, kept);
+    let a = at.kept;
+    let b = at.until;
+    let o = at.old;
+    let f = at.fit;
+    let e = at.end;
+    copy(w, &mut scratch[o..f]);
+    write_candidate(&scratch[a..b], kept, c, ws, w);
+    extrapolated_fit(shape, starts, rows, values, ws, w, &mut scratch[f..e]);
+}
+
+// The candidate keeps its place and its fit replaces the fit if it is better, else the weights come back; the number accepted, 0 or 1.
+fn choose(
+    y: &[f64],
+    penalty: Penalty,
+    before: f64,
+    old: &[f64],
+    new: &[f64],
+    w: &mut [f64],
+    fit: &mut [f64],
+) -> usize
+    requires { ⌜ (length (now y) ≤ 65536) × (length (now new) ≡ length (now y)) × (length (now fit) ≡ length (now new))
+        × (length (now w) ≡ length (now old)) ⌝ }
+    ensures { λ r. ⌜ (let candidate = places.pointOf (now (w .entry)) (now (new .entry)) in
+        places.triedOf r (now (w .exit)) (now (fit .exit))
+        ≡ places.chosenBy penalty (now (y .entry)) before candidate (places.pointOf (now (old .entry)) (now (fit .entry)))) ⌝ }
+{
+    if is_better(y, penalty, w, new, before) {
+        copy(new, fit);
+        return 1;
+    }
+    copy(old, w);
+    0
+}
+
+// The candidate of a solution z of the system is tried; the number accepted.
+fn try_candidate(
+    shape: Shape,
+    starts: &[u32],
+    rows: &[u32],
+    values: &[f64],
+    y: &[f64],
+    penalty: Penalty,
+    depth: usize,
+    z: [f64; 10],
+    ws: &[u32],
+    w: &mut [f64],
+    fit: &mut [f64],
+    scratch: &mut [f64],
+) -> usize
+    requires { ⌜ places.StepReady (given shape (now starts) (now rows) (now values) (now y)) depth (now ws) (now w) (now fit) (now scratch) ⌝ }
+    ensures { λ r. ⌜ (let g = given shape (now (starts .entry)) (now (rows .entry)) (now (values .entry)) (now (y .entry)) in
+        let T = places.taskIn g penalty (now (scratch .entry)) in
+        let kept = places.keptIn shape depth (now (scratch .entry)) in
+        let before = places.pointOf (now (w .entry)) (now (fit .entry)) in
+        (places.triedOf r (now (w .exit)) (now (fit .exit)) ≡ places.triedFrom T (now (y .entry)) depth (now (ws .entry)) kept z before)
+        × (places.keptIn shape depth (now (scratch .exit)) ≡ kept)
+        × (take (3 * shape .p) (now (scratch .exit)) ≡ take (3 * shape .p) (now (scratch .entry)))) ⌝ }
+{
+    let kept = Kept {
+        depth: depth,
+        p: shape.p,
+    };
+    let at = lay_out(shape.n, kept);
+    let o = at.old;
+    let f = at.fit;
+    let e = at.end;
+    let c = coefficients(z, depth);
+    let before = objective(y, penalty, w, fit);
+    make_candidate(shape, starts, rows, values, depth, c, ws, w, scratch);
+    choose(y, penalty, before, &scratch[o..f], &scratch[f..e], w, fit)
+}
+
+// The extrapolation from K+1 kept rows; the number accepted.
+fn extrapolate(
+    shape: Shape,
+    starts: &[u32],
+    rows: &[u32],
+    values: &[f64],
+    y: &[f64],
+    penalty: Penalty,
+    depth: usize,
+    ws: &[u32],
+    w: &mut [f64],
+    fit: &mut [f64],
+    scratch: &mut [f64],
+) -> usize
+    requires { ⌜ places.StepReady (given shape (now starts) (now rows) (now values) (now y)) depth (now ws) (now w) (now fit) (now scratch)
+        × (depth ≤ shape .p) ⌝ }
+    ensures { λ r. ⌜ (let g = given shape (now (starts .entry)) (now (rows .entry)) (now (values .entry)) (now (y .entry)) in
+        let T = places.taskIn g penalty (now (scratch .entry)) in
+        let kept = places.keptIn shape depth (now (scratch .entry)) in
+        let before = places.pointOf (now (w .entry)) (now (fit .entry)) in
+        (places.triedOf r (now (w .exit)) (now (fit .exit)) ≡ ext.extrapolate T (now (y .entry)) depth (now (ws .entry)) kept before)
+        × (places.keptIn shape depth (now (scratch .exit)) ≡ kept)
+        × (take (3 * shape .p) (now (scratch .exit)) ≡ take (3 * shape .p) (now (scratch .entry)))) ⌝ }
+{
+    let kept = Kept {
+        depth: depth,
+        p: shape.p,
+    };
+    let at = lay_out(shape.n, kept);
+    let a = at.kept;
+    let b = at.until;
+    let m = eliminate(system(&scratch[a..b], kept), depth);
+    if is_regular(m, depth) {} else {
+        return 0;
+    }
+    let z = read_off(m, depth);
+    try_candidate(
+        shape,
+        starts,
+        rows,
+        values,
+        y,
+        penalty,
+        depth,
+        z,
+        ws,
+        w,
+        fit,
+        scratch,
+    )
+}
+
+// After the visits of epoch e: the weights are kept as row e mod (K+1), and where that is the last row, the extrapolation is tried; the number
+// accepted. With fewer than K places there is no system.
+pub fn anderson_accel(
+    shape: Shape,
+    starts: &[u32],
+    rows: &[u32],
+    values: &[f64],
+    y: &[f64],
+    penalty: Penalty,
+    depth: usize,
+    e: usize,
+    ws: &[u32],
+    w: &mut [f64],
+    fit: &mut [f64],
+    scratch: &mut [f64],
+) -> usize
+    requires { ⌜ places.StepReady (given shape (now starts) (now rows) (now values) (now y)) depth (now ws) (now w) (now fit) (now scratch) ⌝ }
+    ensures { λ r. ⌜ (let g = given shape (now (starts .entry)) (now (rows .entry)) (now (values .entry)) (now (y .entry)) in
+        let T = places.taskIn g penalty (now (scratch .entry)) in
+        let kept = places.keptThen shape depth e (now (ws .entry)) (now (w .entry)) (now (scratch .entry)) in
+        let before = places.pointOf (now (w .entry)) (now (fit .entry)) in
+        (places.triedOf r (now (w .exit)) (now (fit .exit)) ≡ ext.tried T (now (y .entry)) depth e (now (ws .entry)) kept before)
+        × (places.keptIn shape depth (now (scratch .exit)) ≡ kept)
+        × (take (3 * shape .p) (now (scratch .exit)) ≡ take (3 * shape .p) (now (scratch .entry)))) ⌝ }
+{
+    let row = e % (depth + 1);
+    let kept = Kept {
+        depth: depth,
+        p: shape.p,
+    };
+    let at = lay_out(shape.n, kept);
+    let a = at.kept;
+    let b = at.until;
+    keep(ws, w, row * shape.p, &mut scratch[a..b]);
+    if row == depth {} else {
+        return 0;
+    }
+    if depth <= ws.len() {} else {
+        return 0;
+    }
+    extrapolate(
+        shape,
+        starts,
+        rows,
+        values,
+        y,
+        penalty,
+        depth,
+        ws,
+        w,
+        fit,
+        scratch,
+    )
+}

@@ -1,4 +1,0 @@
--- Laws on the inner loops' definitions.
-pub mod Ready
-pub mod Epochs
-pub mod Reached

@@ -1,0 +1,3 @@
+-- Laws on violations and visits.
+pub mod Violations
+pub mod Visits
