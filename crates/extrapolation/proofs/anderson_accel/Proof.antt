@@ -1,16 +1,45 @@
 -- `anderson_accel`: the row is kept, and where it is the last and there are places enough, the step is tried. Assumes nothing.
+use mathlib.Core.Path.{_≡_}
+use mathlib.Core.List.{List}
+use lib.Ieee.{Float}
+use lib.ListN.{take}
 use denote.Ref.{now}
 use native.Mathlib.Omega.{arith}
+use Rattle.definition.specs.Extrapolation.{keptNow}
+use Rattle.extrapolation.specs.Inner.Places.{keptIn}
 use Rattle.extrapolation.proofs.Laws.Scratch.{row-small, row-room}
 use Rattle.extrapolation.proofs.Laws.Tries.{not-last, too-few, ready-again}
-use Prim.Native.Nat.{_-_}
+use Prim.Native.Nat.{_-_, _*_}
 use Rattle.extrapolation.proofs.Laws.Step.{row-left, and-row, step-tried}
 use native.Mathlib.Nat.{le-trans}
-use borrow.Rule.Slice.PartMut.{same-len-mid}
+use borrow.Rule.Slice.PartMut.{putMid, same-len-mid}
 use borrow.Author.Needs.{needs}
 use Rattle.extrapolation.proofs.anderson_accel.Statement.{statement}
 use Rattle.extrapolation.proofs.anderson_accel.Tie as tie
 
+-- ---- the places: the parts laid out, and the row kept
+abbrev entry : tie.After-lay-out → tie.Start
+entry c = c .before .before .before .before .before .before .before .before .before
+
+abbrev laid-out : tie.After-keep → tie.After-lay-out
+laid-out c = c .before .before .before .before
+
+-- the scratch once the row is kept
+abbrev scratch : tie.After-keep → List Float
+scratch c =
+    let parts = laid-out c .lay-out .result in
+    putMid (parts .kept) (parts .until - parts .kept) (now (entry (laid-out c) .args .scratch)) (c .keep .last .1 .1 .1 .0)
+
+-- its rows are those of the definition, and what lies before them is as it was
+row : (c : tie.After-keep) → let a = entry (laid-out c) .args in
+    (keptIn (a .shape) (a .depth) (scratch c)
+    ≡ keptNow (a .depth) (a .shape .p) (a .e) (now (a .ws)) (now (a .w)) (keptIn (a .shape) (a .depth) (now (a .scratch))))
+    × (take (3 * a .shape .p) (scratch c) ≡ take (3 * a .shape .p) (now (a .scratch)))
+row c =
+    let laid = laid-out c in
+    row-left _ _ _ _ _ _ _ _ _ _ _ _ _ (entry laid .pre) (laid .lay-out .ensures) (c .keep .kept .1 .1 .1 .0) (c .keep .ensures)
+
+-- ---- the needs
 add-row : tie.Need-add-row
 add-row c = search needs
 
@@ -22,9 +51,8 @@ lay-out-requires c κs = search needs
 
 mul-keep : tie.Need-mul-keep
 mul-keep c =
-    let h = row-small (c .before .before .before .before .before .before .before .before .before .before .before .args .e) _ _
-    (c .before .before .before .before .before .before .before .before .before .before .before .pre .sized .shallow)
-    (c .before .before .before .before .before .before .before .before .before .before .before .pre .sized .features) in
+    let start = entry (c .before .before) in
+    let h = row-small (start .args .e) _ _ (start .pre .sized .shallow) (start .pre .sized .features) in
     omega arith
 
 mul-keep-2 : tie.Need-mul-keep-2
@@ -41,14 +69,12 @@ part-keep-end c = search needs
 
 keep-requires : tie.Need-keep-requires
 keep-requires c κs =
-    let at-lay-out = c .before .before .before in
-    let entry = at-lay-out .before .before .before .before .before .before .before .before .before in (
-      λ k h. rw (entry .pre .sized .weights) (entry .pre .sized .below k h),
-      row-room (entry .args .shape) (entry .args .depth) (now (entry .args .scratch)) _ _ (entry .args .e)
-          (at-lay-out .lay-out .ensures .0)
-          (at-lay-out .lay-out .ensures .1)
-          (entry .pre .sized .room) _
-          (entry .pre .sized .few),
+    let laid = c .before .before .before in
+    let a = entry laid .args in
+    let sized = entry laid .pre .sized in
+    let parts = laid .lay-out .ensures in (
+      λ k h. rw (sized .weights) (sized .below k h),
+      row-room (a .shape) (a .depth) (now (a .scratch)) _ _ (a .e) (parts .0) (parts .1) (sized .room) _ (sized .few),
     )
 
 same-length : tie.Need-same-length
@@ -58,16 +84,7 @@ same-length-2 : tie.Need-same-length-2
 same-length-2 c = search needs
 
 returns : tie.Need-returns
-returns c =
-    let at-keep = c .before .before .before in
-    let entry = at-keep .before .before .before .before .before .before .before .before .before .before .before .before .before in
-    and-row
-    (not-last _ _ _ _ _ _ _ (c .if1 .left))
-    (row-left _ _ _ _ _ _ _ _ _ _ _ _ _
-    (entry .pre)
-    (c .before .before .before .before .before .before .before .lay-out .ensures)
-    (at-keep .keep .kept .1 .1 .1 .0)
-    (at-keep .keep .ensures))
+returns c = and-row (not-last _ _ _ _ _ _ _ (c .if1 .left)) (row (c .before .before .before))
 
 same-length-3 : tie.Need-same-length-3
 same-length-3 c = search needs
@@ -76,31 +93,17 @@ same-length-4 : tie.Need-same-length-4
 same-length-4 c = search needs
 
 returns-2 : tie.Need-returns-2
-returns-2 c =
-    let at-keep = c .before .before .before .before in
-    let at-lay-out = at-keep .before .before .before .before in
-    let entry = at-lay-out .before .before .before .before .before .before .before .before .before in
-    and-row
-    (too-few _ _ _ _ _ _ _ (c .before .if1 .taken) (c .if2 .left))
-    (row-left _ _ _ _ _ _ _ _ _ _ _ _ _
-    (entry .pre)
-    (at-lay-out .lay-out .ensures)
-    (at-keep .keep .kept .1 .1 .1 .0)
-    (at-keep .keep .ensures))
+returns-2 c = and-row (too-few _ _ _ _ _ _ _ (c .before .if1 .taken) (c .if2 .left)) (row (c .before .before .before .before))
 
 extrapolate-requires : tie.Need-extrapolate-requires
 extrapolate-requires c κs =
-    let at-keep = c .before .before .before .before .before .before .before in
-    let at-lay-out = at-keep .before .before .before .before in
-    let entry = at-lay-out .before .before .before .before .before .before .before .before .before in (
-      ready-again _ (entry .pre)
-          (same-len-mid (at-lay-out .lay-out .result .kept)
-          (at-lay-out .lay-out .result .until - at-lay-out .lay-out .result .kept)
-          (now (entry .args .scratch))
-          (at-keep .keep .last .1 .1 .1 .0)
-          (at-keep .keep .kept .1 .1 .1 .0)),
-      le-trans (c .before .before .before .if2 .taken) (entry .pre .sized .few),
-    )
+    let places = c .before .before .before in
+    let kept = places .before .before .before .before in
+    let laid = laid-out kept in
+    let start = entry laid in
+    let parts = laid .lay-out .result in
+    let same = same-len-mid (parts .kept) (parts .until - parts .kept) (now (start .args .scratch)) (kept .keep .last .1 .1 .1 .0) in
+    (ready-again _ (start .pre) (same (kept .keep .kept .1 .1 .1 .0)), le-trans (places .if2 .taken) (start .pre .sized .few))
 
 same-length-5 : tie.Need-same-length-5
 same-length-5 c = search needs
@@ -113,20 +116,10 @@ same-length-7 c = search needs
 
 returns-3 : tie.Need-returns-3
 returns-3 c =
-    let at-if2 = c .before .before .before .before .before .before .before .before .before .before in
-    let at-if1 = at-if2 .before in
-    let at-keep = at-if1 .before .before .before in
-    let at-lay-out = at-keep .before .before .before .before in
-    let entry = at-lay-out .before .before .before .before .before .before .before .before .before in
-    step-tried _ _ _ _ _ _ _ _ _ _ _
-    (row-left _ _ _ _ _ _ _ _ _ _ _ _ _
-    (entry .pre)
-    (at-lay-out .lay-out .ensures)
-    (at-keep .keep .kept .1 .1 .1 .0)
-    (at-keep .keep .ensures))
-    (at-if1 .if1 .taken)
-    (at-if2 .if2 .taken)
-    (c .before .before .before .before .before .before .extrapolate .ensures)
+    let tried = c .before .before .before .before .before .before in
+    let places = tried .before .before .before .before in
+    let last = places .before in
+    step-tried _ _ _ _ _ _ _ _ _ _ _ (row (last .before .before .before)) (last .if1 .taken) (places .if2 .taken) (tried .extrapolate .ensures)
 
 pub anderson-accel-spec : {M : Type 1} → statement M
 anderson-accel-spec =

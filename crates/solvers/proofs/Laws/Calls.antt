@@ -46,7 +46,8 @@ module _ (S : Settings) (s : Shape) (d : End) (r : RunEnd) (w fit kept : List Fl
 
 -- ---- the buffers
 -- what is put at the front of each, together
-pub buffers-left : (s : Shape) (S : Settings) (b : Lent) (d : End) (w fit : List Float) (indices : List ℕ) (scratch v f : List Float) (i : List ℕ) (c : List Float)
+pub buffers-left : (s : Shape) (S : Settings) (b : Lent) (d : End) (w fit : List Float) (indices : List ℕ) (scratch : List Float)
+    (v f : List Float) (i : List ℕ) (c : List Float)
     → Leaves s d w fit → indices ≡ tab (λ j. 0) (s .p) → scratch ≡ zeros (scratchRoom s S)
     → v ≡ put (b .weights) 0 w → f ≡ put (b .fit) 0 fit → i ≡ put (b .indices) 0 indices → c ≡ put (b .scratch) 0 scratch
     → lent v f i c ≡ buffers s S b d

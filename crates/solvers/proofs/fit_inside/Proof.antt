@@ -1,13 +1,31 @@
 -- `fit_inside`: the run, then the room it used is cleared; what it came to decides over weights and fit. Assumes nothing.
-use mathlib.Core.Path.{ap, _∙_}
+use mathlib.Core.Path.{_≡_, ap, _∙_}
 use Prim.Native.Nat.{ℕ}
 use Rattle.doubles.specs.Steps.{tab}
-use Rattle.definition.specs.Call.{zeros}
+use Rattle.definition.specs.Call.{zeros, scratchRoom}
 use Rattle.solvers.proofs.Laws.Calls.{run-done, run-given-up}
 use borrow.Author.Needs.{needs}
 use Rattle.solvers.proofs.fit_inside.Statement.{statement}
 use Rattle.solvers.proofs.fit_inside.Tie as tie
 
+-- ---- the places: the run, then the scratch cleared, then the index places
+abbrev entry : tie.After-solve → tie.Start
+entry c = c .before .before .before .before .before .before .before .before .before .before .before .before .before
+
+abbrev ran : tie.After-clear → tie.After-solve
+ran c = c .before .before .before .before .before .before .before .before .before .before
+
+-- the index places are cleared over all features, the scratch over its whole room
+scratch-clear : (c : tie.After-clear) → let a = entry (ran c) .args in c .clear .last .0 ≡ zeros (scratchRoom (a .shape) (a .settings))
+scratch-clear c = c .clear .ensures ∙ ap zeros (ran c .solve .kept .1 .1 .1 .1 .1 .1 .1 .1 .1 .0 ∙ entry (ran c) .pre .0 .room)
+
+indices-clear : (c : tie.After-clear-indices) → let solved = ran (c .before .before .before .before) in
+    c .clear-indices .last .0 ≡ tab (λ j. 0) (entry solved .args .shape .p)
+indices-clear c =
+    let solved = ran (c .before .before .before .before) in
+    c .clear-indices .ensures ∙ ap (tab {A = ℕ} (λ j. 0)) (solved .solve .kept .1 .1 .1 .1 .1 .1 .1 .1 .0 ∙ entry solved .pre .1)
+
+-- ---- the needs
 solve-requires : tie.Need-solve-requires
 solve-requires c κs = search needs
 
@@ -43,19 +61,17 @@ same-length-4 c = search needs
 
 returns : tie.Need-returns
 returns c =
-    let at-given-up = c .before .before .before .before in
-    let at-told = at-given-up .before .before .before .before in
-    let at-indices = at-told .before .before .before .before in
-    let at-scratch = at-indices .before .before .before .before in
-    let at-solve = at-scratch .before .before .before .before .before .before .before .before .before .before in
-    let entry = at-solve .before .before .before .before .before .before .before .before .before .before .before .before .before in
-    let kept = at-solve .solve .kept .1 .1 .1 .1 .1 .1 in
-    let gave = at-given-up .give-up .ensures in
-    let indices = at-indices .clear-indices .ensures ∙ ap (tab {A = ℕ} (λ j. 0)) (kept .1 .1 .0 ∙ entry .pre .1) in
-    let scratch = at-scratch .clear .ensures ∙ ap zeros (kept .1 .1 .1 .0 ∙ entry .pre .0 .room) in
-    let up = run-given-up (entry .args .settings) (entry .args .shape) _ _ _ _ _ (at-solve .solve .ensures) _ (at-told .ended .given .1) _ _ (gave .1) (gave .2) in
-    let ends = up (kept .0 ∙ entry .pre .0 .weights) (kept .1 .0 ∙ entry .pre .0 .fits) in
-    (rw (gave .0) (ends .0), ends .1, indices, scratch)
+    let given-up = c .before .before .before .before in
+    let told = given-up .before .before .before .before in
+    let indices = told .before .before .before .before in
+    let scratch = indices .before .before .before .before in
+    let solved = ran scratch in
+    let start = entry solved in
+    let kept = solved .solve .kept .1 .1 .1 .1 .1 .1 in
+    let gave = given-up .give-up .ensures in
+    let up = run-given-up (start .args .settings) (start .args .shape) _ _ _ _ _ (solved .solve .ensures) _ (told .ended .given .1) in
+    let ends = up _ _ (gave .1) (gave .2) (kept .0 ∙ start .pre .0 .weights) (kept .1 .0 ∙ start .pre .0 .fits) in
+    (rw (gave .0) (ends .0), ends .1, indices-clear indices, scratch-clear scratch)
 
 same-length-5 : tie.Need-same-length-5
 same-length-5 c = search needs
@@ -71,16 +87,14 @@ same-length-8 c = search needs
 
 returns-2 : tie.Need-returns-2
 returns-2 c =
-    let at-told = c .before .before in
-    let at-indices = at-told .before .before .before .before in
-    let at-scratch = at-indices .before .before .before .before in
-    let at-solve = at-scratch .before .before .before .before .before .before .before .before .before .before in
-    let entry = at-solve .before .before .before .before .before .before .before .before .before .before .before .before .before in
-    let kept = at-solve .solve .kept .1 .1 .1 .1 .1 .1 in
-    let indices = at-indices .clear-indices .ensures ∙ ap (tab {A = ℕ} (λ j. 0)) (kept .1 .1 .0 ∙ entry .pre .1) in
-    let scratch = at-scratch .clear .ensures ∙ ap zeros (kept .1 .1 .1 .0 ∙ entry .pre .0 .room) in
-    let ends = run-done (entry .args .settings) (entry .args .shape) _ _ _ _ _ (at-solve .solve .ensures) _ (at-told .ended2 .given .1) _ (c .report .ensures) in
-    (ends .0, ends .1, indices, scratch)
+    let told = c .before .before in
+    let indices = told .before .before .before .before in
+    let scratch = indices .before .before .before .before in
+    let solved = ran scratch in
+    let a = entry solved .args in
+    let done = run-done (a .settings) (a .shape) _ _ _ _ _ (solved .solve .ensures) _ (told .ended2 .given .1) in
+    let ends = done _ (c .report .ensures) in
+    (ends .0, ends .1, indices-clear indices, scratch-clear scratch)
 
 pub fit-inside-spec : {M : Type 1} → statement M
 fit-inside-spec =

@@ -18,7 +18,9 @@ both-requires-3 c κs = search needs
 
 returns : tie.Need-returns
 returns c =
-    rooms-tested _ _ _ _ _ _ _ (c .before .before .before .before .before .before .scratch-room .ensures) (c .before .before .before .before .both .ensures) (c .before .both2 .ensures) (c .both3 .ensures)
+    let indices = c .before .before .before .before in
+    let tested = rooms-tested _ _ _ _ _ _ _ (indices .before .before .scratch-room .ensures) (indices .both .ensures) in
+    tested (c .before .both2 .ensures) (c .both3 .ensures)
 
 pub has-room-spec : {M : Type 1} → statement M
 has-room-spec =

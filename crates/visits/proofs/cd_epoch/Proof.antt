@@ -7,7 +7,7 @@ use denote.Ref.{now}
 use native.Mathlib.Omega.{arith}
 use Rattle.doubles.specs.Steps.{going, upto}
 use Rattle.doubles.proofs.Laws.Steps.{steps-none, steps-all}
-use Rattle.definition.specs.Epoch.{Point, task, visit, visits}
+use Rattle.definition.specs.Epoch.{Task, Point, task, visit, visits}
 use Rattle.visits.proofs.Laws.Visits.{visits-more, visits-broken}
 use Rattle.visits.proofs.cd_epoch.Statement.{statement}
 use Rattle.visits.proofs.cd_epoch.Tie as tie
@@ -20,13 +20,26 @@ Inv-loop shape starts rows values penalty prepared ws w₀ fit₀ i₀ w fit i =
 abbrev μ-loop : tie.MeasureT-loop
 μ-loop shape starts rows values penalty prepared ws w₀ fit₀ i₀ w fit i = length ws - i
 
-below : (c : tie.After-feature-of Inv-loop μ-loop)
-    → c .feature-of .result .0 < c .before .before .before .before .before .before .before .before .before .before .args .shape .p
+-- ---- from a turn: the entry, and what is visited from it
+abbrev entry : tie.At-loop Inv-loop μ-loop → tie.Start Inv-loop μ-loop
+entry c = c .before .before .before .before .before .before .before .before
+
+abbrev problem : tie.Start Inv-loop μ-loop → Task
+problem c =
+    let a = c .args in
+    task (a .shape) (now (a .starts)) (now (a .rows)) (now (a .values)) (a .penalty) (now (a .prepared))
+
+abbrev first : tie.Start Inv-loop μ-loop → Point
+first c = record { weights = now (c .args .w); fit = now (c .args .fit) }
+
+-- a feature of the set is one of the design
+below : (c : tie.After-feature-of Inv-loop μ-loop) → c .feature-of .result .0 < entry (c .before .before) .args .shape .p
 below c =
-    let e = c .before .before .before .before .before .before .before .before .before .before .pre .0 _ (c .before .loop-test .taken) in
+    let e = entry (c .before .before) .pre .0 _ (c .before .loop-test .taken) in
     let q = c .feature-of .ensures in
     omega arith
 
+-- ---- the needs
 loop-holds : tie.Need-loop-holds Inv-loop μ-loop
 loop-holds c = (search needs, search needs, search needs, steps-none _ _)
 
@@ -34,14 +47,9 @@ feature-of-requires : tie.Need-feature-of-requires Inv-loop μ-loop
 feature-of-requires c κs = search needs
 
 visit-requires : tie.Need-visit-requires Inv-loop μ-loop
-visit-requires c κs = (
-  omega (arith, below (c .before .before)),
-  c .before .before .before .before .before .before .before .before .before .before .before .before .pre .1,
-  search needs,
-  search needs,
-  c .before .before .before .before .before .before .before .before .before .before .before .before .pre .4,
-  search needs,
-)
+visit-requires c κs =
+    let start = entry (c .before .before .before .before) in
+    (omega (arith, below (c .before .before)), start .pre .1, search needs, search needs, start .pre .4, search needs)
 
 same-length : tie.Need-same-length Inv-loop μ-loop
 same-length c = search needs
@@ -51,17 +59,11 @@ same-length-2 c = search needs
 
 returns : tie.Need-returns Inv-loop μ-loop
 returns c =
-    let at-there = c .before .before .before .before .before .before .before .before in
-    let at-loop-test = at-there .before in
-    let at-loop = at-loop-test .before in
-    let here = at-there in
-    let a = here .before .before .before .before .before .before .before .before .before .before .args in
-    let T = task (a .shape) (now (a .starts)) (now (a .rows)) (now (a .values)) (a .penalty) (now (a .prepared)) in
-    let start : Point = record { weights = now (a .w); fit = now (a .fit) } in
-    visits-broken T (now (a .ws)) start _ _ _ _ _ (at-loop .loop .inv .3) _
-    (at-there .feature-of .ensures)
-    (c .before .before .before .before .before .visit .ensures) (c .if1 .left)
-    (at-loop-test .loop-test .taken)
+    let there = c .before .before .before .before .before .before .before .before in
+    let turn = there .before .before in
+    let start = entry turn in
+    let broken = visits-broken (problem start) (now (start .args .ws)) (first start) _ _ _ _ _ (turn .loop .inv .3) _ (there .feature-of .ensures) in
+    broken (c .before .before .before .before .before .visit .ensures) (c .if1 .left) (there .before .loop-test .taken)
 
 add-i : tie.Need-add-i Inv-loop μ-loop
 add-i c = search needs
@@ -71,15 +73,11 @@ loop-less c = search needs
 
 loop-again : tie.Need-loop-again Inv-loop μ-loop
 loop-again c =
-    let here = c .before .before .before .before .before .before .before .before in
-    let a = here .before .before .before .before .before .before .before .before .before .before .args in
-    let T = task (a .shape) (now (a .starts)) (now (a .rows)) (now (a .values)) (a .penalty) (now (a .prepared)) in
-    let start : Point = record { weights = now (a .w); fit = now (a .fit) } in
-    let more =
-    visits-more T (now (a .ws)) start _ _ _ _ _
-    (c .before .before .before .before .before .before .before .before .before .before .loop .inv .3) _
-    (c .before .before .before .before .before .before .before .before .feature-of .ensures)
-    (c .before .before .before .before .before .visit .ensures) (c .if1 .taken) in
+    let there = c .before .before .before .before .before .before .before .before in
+    let turn = there .before .before in
+    let start = entry turn in
+    let next = visits-more (problem start) (now (start .args .ws)) (first start) _ _ _ _ _ (turn .loop .inv .3) _ (there .feature-of .ensures) in
+    let more = next (c .before .before .before .before .before .visit .ensures) (c .if1 .taken) in
     (search needs, search needs, search needs, more)
 
 same-length-3 : tie.Need-same-length-3 Inv-loop μ-loop

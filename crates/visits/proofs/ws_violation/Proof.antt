@@ -5,7 +5,7 @@ use lib.ListN.{length, getD}
 use denote.Ref.{now}
 use native.Mathlib.Omega.{arith}
 use Rattle.doubles.specs.Num.{at}
-use Rattle.definition.specs.Epoch.{task, gradientOf, violationOf, known, knownIn, worstIn}
+use Rattle.definition.specs.Epoch.{Task, task, gradientOf, violationOf, known, knownIn, worstIn}
 use Rattle.visits.specs.Inner.Reading.{measuredIn}
 use Rattle.visits.proofs.Laws.Violations.{Passed, of-feature, passed-none, passed-more, passed-bad, passed-all}
 use Rattle.visits.proofs.ws_violation.Statement.{statement}
@@ -18,13 +18,23 @@ Inv-loop shape starts rows values penalty prepared ws w fit largest₀ i₀ larg
 abbrev μ-loop : tie.MeasureT-loop
 μ-loop shape starts rows values penalty prepared ws w fit largest₀ i₀ largest i = length ws - i
 
-below : (c : tie.After-feature-of Inv-loop μ-loop)
-    → c .feature-of .result .0 < c .before .before .before .before .before .before .before .before .before .before .args .shape .p
+-- ---- from a turn: the entry, and what is measured from it
+abbrev entry : tie.At-loop Inv-loop μ-loop → tie.Start Inv-loop μ-loop
+entry c = c .before .before .before .before .before .before .before .before
+
+abbrev problem : tie.Start Inv-loop μ-loop → Task
+problem c =
+    let a = c .args in
+    task (a .shape) (now (a .starts)) (now (a .rows)) (now (a .values)) (a .penalty) (now (a .prepared))
+
+-- a feature of the set is one of the design
+below : (c : tie.After-feature-of Inv-loop μ-loop) → c .feature-of .result .0 < entry (c .before .before) .args .shape .p
 below c =
-    let e = c .before .before .before .before .before .before .before .before .before .before .pre .0 _ (c .before .loop-test .taken) in
+    let e = entry (c .before .before) .pre .0 _ (c .before .loop-test .taken) in
     let q = c .feature-of .ensures in
     omega arith
 
+-- ---- the needs
 loop-holds : tie.Need-loop-holds Inv-loop μ-loop
 loop-holds c = (search needs, passed-none)
 
@@ -32,13 +42,9 @@ feature-of-requires : tie.Need-feature-of-requires Inv-loop μ-loop
 feature-of-requires c κs = search needs
 
 gradient-j-requires : tie.Need-gradient-j-requires Inv-loop μ-loop
-gradient-j-requires c κs = (
-  below c,
-  c .before .before .before .before .before .before .before .before .before .before .pre .1,
-  search needs,
-  c .before .before .before .before .before .before .before .before .before .before .pre .4,
-  search needs,
-)
+gradient-j-requires c κs =
+    let start = entry (c .before .before) in
+    (below c, start .pre .1, search needs, start .pre .4, search needs)
 
 weight-requires : tie.Need-weight-requires Inv-loop μ-loop
 weight-requires c κs = omega (arith, below (c .before))
@@ -52,14 +58,12 @@ enum-told c = search needs
 returns : tie.Need-returns Inv-loop μ-loop
 unfolding measuredIn knownIn known worstIn violationOf
 returns c =
-    let entry = c .before .before .before .before .before .before .before .before .before .before .before .before .before .before .before in
-    let a = entry .args in
-    let T = task (a .shape) (now (a .starts)) (now (a .rows)) (now (a .values)) (a .penalty) (now (a .prepared)) in
-    passed-bad (c .before .before .before .before .before .before .before .loop .inv .1)
-    (of-feature T (now (a .w)) _ _ _ _ _ _ (c .before .before .before .before .before .feature-of .ensures)
-    (c .before .before .before .weight .ensures) (c .before .before .before .before .gradient-j .ensures)
-    (c .before .before .violation-at .ensures))
-    _ _ (c .enum-told .given .1) (c .before .before .before .before .before .before .loop-test .taken)
+    let there = c .before .before .before .before .before in
+    let turn = there .before .before in
+    let start = entry turn in
+    let of = of-feature (problem start) (now (start .args .w)) _ _ _ _ _ _ (there .feature-of .ensures) (c .before .before .before .weight .ensures) in
+    let measured = of (c .before .before .before .before .gradient-j .ensures) (c .before .before .violation-at .ensures) in
+    passed-bad (turn .loop .inv .1) measured _ _ (c .enum-told .given .1) (there .before .loop-test .taken)
 
 enum-known-v : tie.Need-enum-known-v Inv-loop μ-loop
 enum-known-v c = search needs
@@ -69,23 +73,21 @@ larger-requires c κs = search needs
 
 add-i : tie.Need-add-i Inv-loop μ-loop
 add-i c =
-    let here = c .before .before .before .before .before .before .before in
-    search (needs, here .before .before .before .before .before .before .before .before .before .before .good)
+    let turn = c .before .before .before .before .before .before .before .before .before in
+    search (needs, entry turn .good)
 
 loop-less : tie.Need-loop-less Inv-loop μ-loop
 loop-less c = search needs
 
 loop-again : tie.Need-loop-again Inv-loop μ-loop
 loop-again c =
-    let here = c .before .before .before .before .before .before .before in
-    let a = here .before .before .before .before .before .before .before .before .before .before .args in
-    let T = task (a .shape) (now (a .starts)) (now (a .rows)) (now (a .values)) (a .penalty) (now (a .prepared)) in
-    let more =
-    passed-more (c .before .before .before .before .before .before .before .before .before .loop .inv .1)
-    (of-feature T (now (a .w)) _ _ _ _ _ _ (c .before .before .before .before .before .before .before .feature-of .ensures)
-    (c .before .before .before .before .before .weight .ensures) (c .before .before .before .before .before .before .gradient-j .ensures)
-    (c .before .before .before .before .violation-at .ensures))
-    (c .before .before .v .given .1) (c .larger .ensures) in
+    let weighed = c .before .before .before .before .before in
+    let there = weighed .before .before in
+    let turn = there .before .before in
+    let start = entry turn in
+    let of = of-feature (problem start) (now (start .args .w)) _ _ _ _ _ _ (there .feature-of .ensures) (weighed .weight .ensures) in
+    let measured = of (weighed .before .gradient-j .ensures) (c .before .before .before .before .violation-at .ensures) in
+    let more = passed-more (turn .loop .inv .1) measured (c .before .before .v .given .1) (c .larger .ensures) in
     (search needs, more)
 
 returns-2 : tie.Need-returns-2 Inv-loop μ-loop
