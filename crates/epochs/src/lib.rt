@@ -10,7 +10,7 @@ ghost use Rattle.designs.specs.Given.{given};
 ghost use Rattle.designs.specs.Inner.Sound.{Whole};
 ghost use Rattle.definition.specs.Epoch as ep;
 ghost use Rattle.definition.specs.Run as def;
-ghost use Rattle.extrapolation.specs.Inner.Places.{pointOf, taskIn};
+ghost use Rattle.extrapolation.specs.Inner.Places.{pointWith, taskIn};
 ghost use Rattle.epochs.specs.Inner.Reading as here;
 use decisions::is_check_due;
 use decisions::is_enough;
@@ -88,7 +88,7 @@ fn accelerate(
         let T = taskIn g (settings .penalty) (now (scratch .entry)) in
         let before = here.innerOf counts (now (w .entry)) (now (fit .entry)) (here.keptHere shape settings (now (scratch .entry))) in
         let after = here.innerOf r (now (w .exit)) (now (fit .exit)) (here.keptHere shape settings (now (scratch .exit))) in
-        (after ≡ def.accelerated T (now (y .entry)) settings (now (ws .entry)) e before (pointOf (now (w .entry)) (now (fit .entry))))
+        (after ≡ def.accelerated T (now (y .entry)) settings (now (ws .entry)) e before (pointWith (now (w .entry)) (now (fit .entry))))
         × (take (shape .p + shape .p) (now (scratch .exit)) ≡ take (shape .p + shape .p) (now (scratch .entry)))
         × (r .epochs ≤ counts .epochs + 1)
         × (r .extrapolations ≤ counts .extrapolations + 1)) ⌝ }

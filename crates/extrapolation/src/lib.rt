@@ -268,9 +268,9 @@ fn choose(
 ) -> usize
     requires { ⌜ (length (now y) ≤ 65536) × (length (now new) ≡ length (now y)) × (length (now fit) ≡ length (now new))
         × (length (now w) ≡ length (now old)) ⌝ }
-    ensures { λ r. ⌜ (let candidate = places.pointOf (now (w .entry)) (now (new .entry)) in
+    ensures { λ r. ⌜ (let candidate = places.pointWith (now (w .entry)) (now (new .entry)) in
         places.triedOf r (now (w .exit)) (now (fit .exit))
-        ≡ places.chosenBy penalty (now (y .entry)) before candidate (places.pointOf (now (old .entry)) (now (fit .entry)))) ⌝ }
+        ≡ places.chosenBy penalty (now (y .entry)) before candidate (places.pointWith (now (old .entry)) (now (fit .entry)))) ⌝ }
 {
     if is_better(y, penalty, w, new, before) {
         copy(new, fit);
@@ -299,7 +299,7 @@ fn try_candidate(
     ensures { λ r. ⌜ (let g = given shape (now (starts .entry)) (now (rows .entry)) (now (values .entry)) (now (y .entry)) in
         let T = places.taskIn g penalty (now (scratch .entry)) in
         let kept = places.keptIn shape depth (now (scratch .entry)) in
-        let before = places.pointOf (now (w .entry)) (now (fit .entry)) in
+        let before = places.pointWith (now (w .entry)) (now (fit .entry)) in
         (places.triedOf r (now (w .exit)) (now (fit .exit)) ≡ places.triedFrom T (now (y .entry)) depth (now (ws .entry)) kept z before)
         × (places.keptIn shape depth (now (scratch .exit)) ≡ kept)
         × (take (3 * shape .p) (now (scratch .exit)) ≡ take (3 * shape .p) (now (scratch .entry)))) ⌝ }
@@ -337,7 +337,7 @@ fn extrapolate(
     ensures { λ r. ⌜ (let g = given shape (now (starts .entry)) (now (rows .entry)) (now (values .entry)) (now (y .entry)) in
         let T = places.taskIn g penalty (now (scratch .entry)) in
         let kept = places.keptIn shape depth (now (scratch .entry)) in
-        let before = places.pointOf (now (w .entry)) (now (fit .entry)) in
+        let before = places.pointWith (now (w .entry)) (now (fit .entry)) in
         (places.triedOf r (now (w .exit)) (now (fit .exit)) ≡ ext.extrapolate T (now (y .entry)) depth (now (ws .entry)) kept before)
         × (places.keptIn shape depth (now (scratch .exit)) ≡ kept)
         × (take (3 * shape .p) (now (scratch .exit)) ≡ take (3 * shape .p) (now (scratch .entry)))) ⌝ }
@@ -390,7 +390,7 @@ pub fn anderson_accel(
     ensures { λ r. ⌜ (let g = given shape (now (starts .entry)) (now (rows .entry)) (now (values .entry)) (now (y .entry)) in
         let T = places.taskIn g penalty (now (scratch .entry)) in
         let kept = places.keptThen shape depth e (now (ws .entry)) (now (w .entry)) (now (scratch .entry)) in
-        let before = places.pointOf (now (w .entry)) (now (fit .entry)) in
+        let before = places.pointWith (now (w .entry)) (now (fit .entry)) in
         (places.triedOf r (now (w .exit)) (now (fit .exit)) ≡ ext.tried T (now (y .entry)) depth e (now (ws .entry)) kept before)
         × (places.keptIn shape depth (now (scratch .exit)) ≡ kept)
         × (take (3 * shape .p) (now (scratch .exit)) ≡ take (3 * shape .p) (now (scratch .entry)))) ⌝ }

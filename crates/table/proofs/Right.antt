@@ -7,7 +7,8 @@ use Rattle.doubles.specs.Steps.{steps, upward, downward}
 use Rattle.doubles.specs.Buffer.{put}
 use Rattle.penalties.specs.Soft.{soft}
 use Rattle.penalties.specs.Penalty.{alphaLegal, secondLegal, penaltyFault, proxL1, proxL1PlusL2, proxMcp, prox, excess, violationL1, violation}
-use Rattle.elimination.specs.Elimination.{reduced, cleared, clearedBelow, echelon, clearedAbove, backSubstituted, regular, readOff, eliminated, solution, solveCall}
+use Rattle.elimination.specs.Elimination.{reduced, cleared, clearedBelow, echelon, clearedAbove, backSubstituted}
+use Rattle.elimination.specs.Elimination.{regular, readOff, eliminated, solution, solveCall}
 use Rattle.designs.specs.Design.{dense, laid, dot, squares, lipschitz, dots, prepared, gradientFrom, gradient, squaredError, datafit, moved, finiteAt}
 use Rattle.designs.specs.Checks.{lengths, sizes, notFinite, numbers, contents, sizedFault}
 use Rattle.datafits.specs.Calls.{valueFault, valueCall}
@@ -16,7 +17,8 @@ use Rattle.worksets.specs.Call.{badViolation, wsFault, wsCall, wsLeft}
 use Rattle.definition.specs.Epoch.{gradientOf, violationOf, known, allKnown, violations, worst, knownIn, worstIn, newWeight, movedBy, movedFinite, fine}
 use Rattle.definition.specs.Epoch.{visited, visit, visits}
 use Rattle.definition.specs.Run.{accelerated, enough, checked, checks, settled, epoch, epochs, chosenSet, iteration, turn, start, run}
-use Rattle.definition.specs.Call.{startLegal, depthLegal, settingsFault, scratchRoom, roomy, fitFault, usable, solved, fitted, fitEnd, reportOf, fitCall, fitLeft}
+use Rattle.definition.specs.Call.{startLegal, depthLegal, settingsFault, scratchRoom, roomy, fitFault}
+use Rattle.definition.specs.Call.{usable, solved, fitted, fitEnd, reportOf, fitCall, fitLeft}
 use Rattle.table.specs.Table.{bits, same, solutionLine, dirty, diagonal, listing, setLine, right, mcp, table}
 
 pub right-table : right table ≡ true

@@ -18,7 +18,7 @@ use Rattle.definition.specs.Epoch.{Task, Point, knownIn, worstIn, visits}
 use Rattle.definition.specs.Extrapolation.{Tried, keeps, better, chosen, candidateOf, system, fromSystem, extrapolate, due, tried, keptNow}
 use Rattle.definition.specs.Run.{Inner, #0·3, accelerated, enough, checked, checks, settled, epoch}
 use Rattle.definition.specs.declared.Settings.{Settings}
-use Rattle.extrapolation.specs.Inner.Places.{keptIn, pointOf, triedOf}
+use Rattle.extrapolation.specs.Inner.Places.{keptIn, pointWith, triedOf}
 use Rattle.visits.specs.Inner.Reading.{visitOf, measuredIn}
 use Rattle.epochs.specs.Inner.Reading.{keptHere, innerOf, countsOf}
 use Rattle.epochs.specs.declared.Counts.{Counts}
@@ -50,16 +50,16 @@ module _ (T : Task) (y : List Float) (K : ℕ) (ws : List ℕ) (kept : List Floa
 -- ---- the extrapolation
 module _ (T : Task) (y : List Float) (S : Settings) (ws : List ℕ) (e : ℕ) (c : Counts) (s : Shape) where
   pub accelerated-on : (w fit w' fit' scratch scratch' : List Float) (r : ℕ) → S .extrapolate ≡ true
-      → triedOf r w' fit' ≡ tried T y (S .depth) e ws (keptNow (S .depth) (T .p) e ws w (keptIn s (S .depth) scratch)) (pointOf w fit)
+      → triedOf r w' fit' ≡ tried T y (S .depth) e ws (keptNow (S .depth) (T .p) e ws w (keptIn s (S .depth) scratch)) (pointWith w fit)
       → keptIn s (S .depth) scratch' ≡ keptNow (S .depth) (T .p) e ws w (keptIn s (S .depth) scratch)
       → innerOf (record { epochs = c .epochs + 1; extrapolations = c .extrapolations + r }) w' fit' (keptHere s S scratch')
-      ≡ accelerated T y S ws e (innerOf c w fit (keptHere s S scratch)) (pointOf w fit)
+      ≡ accelerated T y S ws e (innerOf c w fit (keptHere s S scratch)) (pointWith w fit)
   unfolding accelerated keptHere
   accelerated-on w fit w' fit' scratch scratch' r on t k = rw (on, ← t, k)
 
   pub accelerated-off : (w fit scratch : List Float) → S .extrapolate ≡ false
       → innerOf (record { epochs = c .epochs + 1; extrapolations = c .extrapolations }) w fit (keptHere s S scratch)
-      ≡ accelerated T y S ws e (innerOf c w fit (keptHere s S scratch)) (pointOf w fit)
+      ≡ accelerated T y S ws e (innerOf c w fit (keptHere s S scratch)) (pointWith w fit)
   unfolding accelerated keptHere
   accelerated-off w fit scratch off = let z : c .extrapolations + 0 ≡ c .extrapolations = omega arith in rw (off, z)
 
@@ -108,16 +108,16 @@ module _ (T : Task) (y : List Float) (S : Settings) (ws : List ℕ) (outer : Flo
   unfolding accelerated
   accelerated-from a b kept q = refl
 
-  pub epoch-bad : (w fit w' fit' kept : List Float) (r : Bool) → r ≡ false → visitOf r w' fit' ≡ visits T ws (pointOf w fit)
+  pub epoch-bad : (w fit w' fit' kept : List Float) (r : Bool) → r ≡ false → visitOf r w' fit' ≡ visits T ws (pointWith w fit)
       → bad ≡ epoch T y S ws outer e (innerOf c w fit kept)
   unfolding epoch
   epoch-bad w fit w' fit' kept r h v = rw (← v, h)
 
-  module _ (w fit w₁ fit₁ kept : List Float) (r : Bool) (h : r ≡ true) (v : visitOf r w₁ fit₁ ≡ visits T ws (pointOf w fit)) (after : Counts)
-      (w₂ fit₂ kept₂ : List Float) (a : innerOf after w₂ fit₂ kept₂ ≡ accelerated T y S ws e (innerOf c w₁ fit₁ kept) (pointOf w₁ fit₁)) where
+  module _ (w fit w₁ fit₁ kept : List Float) (r : Bool) (h : r ≡ true) (v : visitOf r w₁ fit₁ ≡ visits T ws (pointWith w fit)) (after : Counts)
+      (w₂ fit₂ kept₂ : List Float) (a : innerOf after w₂ fit₂ kept₂ ≡ accelerated T y S ws e (innerOf c w₁ fit₁ kept) (pointWith w₁ fit₁)) where
     pub epoch-settled : settled T S ws outer e (innerOf after w₂ fit₂ kept₂) ≡ epoch T y S ws outer e (innerOf c w fit kept)
     unfolding epoch
-    epoch-settled = rw (← v, h, a, accelerated-from (pointOf w fit) (pointOf w₁ fit₁) kept (pointOf w₁ fit₁))
+    epoch-settled = rw (← v, h, a, accelerated-from (pointWith w fit) (pointWith w₁ fit₁) kept (pointWith w₁ fit₁))
 
     pub epoch-unchecked : (b : Bool) → b ≡ checks e → b ≡ false → going (innerOf after w₂ fit₂ kept₂) ≡ epoch T y S ws outer e (innerOf c w fit kept)
     unfolding settled

@@ -34,13 +34,16 @@ few : (c : tie.At-loop Inv-loop μ-loop) → entry c .args .settings .epochs ≤
 few c = few-epochs _ (entry c .pre .0 .legal)
 
 -- an epoch leaves the buffers as long as they were lent
-weights-long : (c : tie.After-run-epoch Inv-loop μ-loop) → length (c .run-epoch .last .1 .1 .1 .1 .1 .1 .1 .1 .1 .0) ≡ length (now (entry (turn (tested c)) .args .w))
+weights-long : (c : tie.After-run-epoch Inv-loop μ-loop)
+    → length (c .run-epoch .last .1 .1 .1 .1 .1 .1 .1 .1 .1 .0) ≡ length (now (entry (turn (tested c)) .args .w))
 weights-long c = c .run-epoch .kept .1 .1 .1 .1 .1 .1 .1 .1 .1 .0 ∙ turn (tested c) .loop .inv .1 .held .weights
 
-fit-long : (c : tie.After-run-epoch Inv-loop μ-loop) → length (c .run-epoch .last .1 .1 .1 .1 .1 .1 .1 .1 .1 .1 .0) ≡ length (now (entry (turn (tested c)) .args .fit))
+fit-long : (c : tie.After-run-epoch Inv-loop μ-loop)
+    → length (c .run-epoch .last .1 .1 .1 .1 .1 .1 .1 .1 .1 .1 .0) ≡ length (now (entry (turn (tested c)) .args .fit))
 fit-long c = c .run-epoch .kept .1 .1 .1 .1 .1 .1 .1 .1 .1 .1 .0 ∙ turn (tested c) .loop .inv .1 .held .fits
 
-scratch-long : (c : tie.After-run-epoch Inv-loop μ-loop) → length (c .run-epoch .last .1 .1 .1 .1 .1 .1 .1 .1 .1 .1 .1 .0) ≡ length (now (entry (turn (tested c)) .args .scratch))
+scratch-long : (c : tie.After-run-epoch Inv-loop μ-loop)
+    → length (c .run-epoch .last .1 .1 .1 .1 .1 .1 .1 .1 .1 .1 .1 .0) ≡ length (now (entry (turn (tested c)) .args .scratch))
 scratch-long c = c .run-epoch .kept .1 .1 .1 .1 .1 .1 .1 .1 .1 .1 .1 .0 ∙ turn (tested c) .loop .inv .1 .held .room
 
 -- ---- the needs

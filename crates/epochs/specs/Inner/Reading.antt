@@ -13,7 +13,7 @@ use Rattle.designs.specs.declared.Shape.{Shape}
 use Rattle.definition.specs.Run.{Inner}
 use Rattle.definition.specs.Call.{scratchRoom, settingsFault}
 use Rattle.definition.specs.declared.Settings.{Settings}
-use Rattle.extrapolation.specs.Inner.Places.{keptIn, pointOf}
+use Rattle.extrapolation.specs.Inner.Places.{keptIn, pointWith}
 use Rattle.epochs.specs.declared.Counts.{Counts}
 use Rattle.epochs.specs.declared.InnerStep.{InnerStep}
 use Rattle.epochs.specs.declared.InnerStep.the-variants as Inner'
@@ -24,7 +24,7 @@ keptHere s S scratch = pick (S .extrapolate) (keptIn s (S .depth) scratch) []
 
 -- ---- within one working set
 abbrev pub innerOf : Counts → List Float → List Float → List Float → Inner
-innerOf c w fit kept = record { point = pointOf w fit; kept = kept; epochs = c .epochs; extrapolations = c .extrapolations }
+innerOf c w fit kept = record { point = pointWith w fit; kept = kept; epochs = c .epochs; extrapolations = c .extrapolations }
 
 abbrev pub innerStage : InnerStep → List Float → List Float → List Float → Stage Inner
 innerStage (Inner'.Going c) w fit kept = going (innerOf c w fit kept)

@@ -16,7 +16,7 @@ use Rattle.designs.specs.Design.{design, extrapolated}
 use Rattle.designs.specs.Given.{Given, designOf}
 use Rattle.definition.specs.Epoch.{Point}
 use Rattle.definition.specs.Extrapolation.{Tried, candidate, coefficients, objectiveOf, extrapolate, tried, gathered, keptNow}
-use Rattle.extrapolation.specs.Inner.Places.{Sized, StepReady, keptIn, oldAt, fitAt, taskIn, pointOf, chosenBy, triedFrom}
+use Rattle.extrapolation.specs.Inner.Places.{Sized, StepReady, keptIn, oldAt, fitAt, taskIn, pointWith, chosenBy, triedFrom}
 use Rattle.extrapolation.proofs.Laws.Scratch.{room-split, old-put, kept-then, both-put, old-long, new-long}
 use Rattle.extrapolation.proofs.Laws.Scratch.{both-old, both-fit, both-kept, both-first, row-kept, row-first}
 use Rattle.extrapolation.proofs.Laws.Tries.{tried-from, due-here}
@@ -65,8 +65,8 @@ pub chosen-here : (g : Given) (penalty : Penalty) (K : ℕ) (ws : List ℕ)
     × (m ≡ put (put l (oldAt (g .shape) K) w) (fitAt (g .shape) K) (extrapolated (designOf g) ws v))
     × (length (extrapolated (designOf g) ws v) ≡ g .shape .n)
     → before ≡ objectiveOf penalty (g .targets) w fit → c ≡ coefficients K z
-    → r ≡ chosenBy penalty (g .targets) before (pointOf v (take (e - f) (drop f m))) (pointOf (take (f - o) (drop o m)) fit)
-    → (r ≡ triedFrom (taskIn g penalty l) (g .targets) K ws (keptIn (g .shape) K l) z (pointOf w fit))
+    → r ≡ chosenBy penalty (g .targets) before (pointWith v (take (e - f) (drop f m))) (pointWith (take (f - o) (drop o m)) fit)
+    → (r ≡ triedFrom (taskIn g penalty l) (g .targets) K ws (keptIn (g .shape) K l) z (pointWith w fit))
     × (keptIn (g .shape) K m ≡ keptIn (g .shape) K l)
     × (take (3 * g .shape .p) m ≡ take (3 * g .shape .p) l)
 chosen-here g penalty K ws w fit l z c v m before a b o f e r R at q eb ec er =

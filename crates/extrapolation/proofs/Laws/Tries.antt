@@ -18,7 +18,7 @@ use Rattle.definition.specs.Epoch.{Task, Point}
 use Rattle.definition.specs.Extrapolation as ext
 use Rattle.definition.specs.Extrapolation.{Tried, keeps, combined, candidate, coefficients, system, objectiveOf, better, chosen, candidateOf}
 use Rattle.definition.specs.Extrapolation.{extrapolate, fromSystem, due, tried}
-use Rattle.extrapolation.specs.Inner.Places.{pointOf, chosenBy, triedFrom, taskIn, keptIn, StepReady}
+use Rattle.extrapolation.specs.Inner.Places.{pointWith, chosenBy, triedFrom, taskIn, keptIn, StepReady}
 
 -- all places of the working set written, over zeros
 pub candidate-done : (K p : ℕ) (ws : List ℕ) (kept c u w : List Float) (n i : ℕ) → u ≡ tab (λ j. #0) n → n ≡ p
@@ -30,9 +30,9 @@ candidate-done K p ws kept c u w n i e h q a b =
 
 -- the choice, from what was found in the scratch
 pub tried-from : (T : Task) (y : List Float) (K : ℕ) (ws : List ℕ) (kept z c w₀ fit₀ w new old : List Float) (before : Float) (r : Tried)
-    → r ≡ chosenBy (T .penalty) y before (pointOf w new) (pointOf old fit₀) → before ≡ objectiveOf (T .penalty) y w₀ fit₀
+    → r ≡ chosenBy (T .penalty) y before (pointWith w new) (pointWith old fit₀) → before ≡ objectiveOf (T .penalty) y w₀ fit₀
     → new ≡ extrapolated (T .X) ws w → old ≡ w₀ → w ≡ candidate K (T .p) ws kept c → c ≡ coefficients K z
-    → r ≡ triedFrom T y K ws kept z (pointOf w₀ fit₀)
+    → r ≡ triedFrom T y K ws kept z (pointWith w₀ fit₀)
 unfolding chosenBy triedFrom candidateOf chosen better ext.pointOf
 tried-from T y K ws kept z c w₀ fit₀ w new old before r e eb en eo ew ec = e ∙ rw (eb, en, eo, ew, ec)
 

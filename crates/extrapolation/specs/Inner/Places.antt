@@ -23,11 +23,11 @@ keptIn s K scratch = take (suc K * s .p) (drop (3 * s .p) scratch)
 abbrev pub keptThen : Shape → ℕ → ℕ → List ℕ → List Float → List Float → List Float
 keptThen s K e ws w scratch = keptNow K (s .p) e ws w (keptIn s K scratch)
 
-abbrev pub pointOf : List Float → List Float → Point
-pointOf w fit = record { weights = w; fit = fit }
+abbrev pub pointWith : List Float → List Float → Point
+pointWith w fit = record { weights = w; fit = fit }
 
 abbrev pub triedOf : ℕ → List Float → List Float → Tried
-triedOf r w fit = record { point = pointOf w fit; taken = r }
+triedOf r w fit = record { point = pointWith w fit; taken = r }
 
 -- behind K rows that stay zero: the weights as they were, and the candidate's fit
 unfoldable pub oldAt : Shape → ℕ → ℕ

@@ -22,7 +22,7 @@ use Rattle.definition.specs.Epoch.{Task, gradientOf, violationOf, known, allKno
 use Rattle.definition.specs.Run.{State, epochs, chosenSet, iteration, turn}
 use Rattle.definition.specs.Call.{concluded}
 use Rattle.definition.specs.declared.Settings.{Settings}
-use Rattle.extrapolation.specs.Inner.Places.{taskIn, keptIn, pointOf}
+use Rattle.extrapolation.specs.Inner.Places.{taskIn, keptIn, pointWith}
 use Rattle.selection.specs.Inner.Heap.{Numbers}
 use Rattle.worksets.proofs.Laws.Sets.{size-most, length-workingSet, workingSet-each}
 use Rattle.visits.specs.Inner.Reading.{Measured, measured}
@@ -62,7 +62,7 @@ pub part-violations : (s : Shape) (l : List Float) → take (s .p + s .p + s .p 
 part-violations s l = let q : s .p + s .p + s .p - (s .p + s .p) ≡ s .p = omega arith in rw q
 
 pub set-chosen : (T : Task) (S : Settings) (w fit v : List Float) (start : ℕ) (ws : List ℕ) → start ≡ smaller (S .start) (T .p) → v ≡ violations T w fit
-    → ws ≡ workingSet start v w → ws ≡ chosenSet T S (pointOf w fit)
+    → ws ≡ workingSet start v w → ws ≡ chosenSet T S (pointWith w fit)
 unfolding chosenSet
 set-chosen T S w fit v start ws es ev e = e ∙ rw (es, ev)
 
@@ -76,7 +76,7 @@ numbers-known T w fit v e k n = record { each = λ j h z. rw (e, getD-tab (viola
 
 -- ---- one iteration
 module _ (T : Task) (y : List Float) (S : Settings) (v : Float) (c : Totals) (w fit kept : List Float) (ws : List ℕ)
-    (es : ws ≡ chosenSet T S (pointOf w fit)) (r : InnerStep) (w' fit' kept' : List Float)
+    (es : ws ≡ chosenSet T S (pointWith w fit)) (r : InnerStep) (w' fit' kept' : List Float)
     (ex : innerStage r w' fit' kept' ≡ epochs T y S ws v (innerOf (c .counts) w fit kept)) (sets : List (List ℕ)) where
   iterated : iteration T y S v (stateOf c w fit kept sets)
       ≡ andThen (innerStage r w' fit' kept') (λ i. going (record { inner = i; violation = v; iterations = c .iterations + 1; sets = sets ++ (ws ∷ []) }))

@@ -8,7 +8,7 @@ use lib.Seq.{length-take-le}
 use Rattle.designs.specs.Given.{given}
 use Rattle.definition.specs.Epoch.{Task, violations}
 use Rattle.definition.specs.Run.{chosenSet}
-use Rattle.extrapolation.specs.Inner.Places.{taskIn, pointOf}
+use Rattle.extrapolation.specs.Inner.Places.{taskIn, pointWith}
 use Rattle.epochs.proofs.Laws.Ready.{room-for}
 use Rattle.iterations.proofs.Laws.Turns.{start-most, set-built, set-most, set-features, part-violations, set-chosen, numbers-known}
 use Rattle.iterations.proofs.Laws.Turns.{shown-going, shown-stopped, shown-bad, grown-by, grown-none}
@@ -55,7 +55,7 @@ inside c =
 -- it is the one that the definition chooses
 chosen : (c : tie.After-construct-ws) → let start = entry (sized c) in
     take (c .construct-ws .result) (c .construct-ws .last .1 .1 .1 .0)
-    ≡ chosenSet (task start) (start .args .settings) (pointOf (now (start .args .w)) (now (start .args .fit)))
+    ≡ chosenSet (task start) (start .args .settings) (pointWith (now (start .args .w)) (now (start .args .fit)))
 chosen c =
     let made = set-built _ _ _ (few (sized c)) _ _ (c .construct-ws .ensures .0) (c .construct-ws .ensures .1) in
     set-chosen _ _ _ _ _ _ _ (sized c .start-size .ensures) (measured (entry (sized c))) made
