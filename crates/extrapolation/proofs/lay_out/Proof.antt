@@ -27,20 +27,20 @@ add-t6 c = search needs
 
 mul-t7 : tie.Need-mul-t7
 mul-t7 c =
-    let h = rows-small _ _ (c .before .before .before .before .before .before .pre .0)
-    (c .before .before .before .before .before .before .pre .1) in
+    let start = c .before .before .before .before .before .before in
+    let h = rows-small _ _ (start .pre .0) (start .pre .1) in
     omega arith
 
 add-t8 : tie.Need-add-t8
 add-t8 c =
-    let h = rows-small _ _ (c .before .before .before .before .before .before .pre .0)
-    (c .before .before .before .before .before .before .pre .1) in
+    let start = c .before .before .before .before .before .before in
+    let h = rows-small _ _ (start .pre .0) (start .pre .1) in
     omega arith
 
 add-t9 : tie.Need-add-t9
 add-t9 c =
-    let h = places-small _ _ (c .before .before .before .before .before .before .pre .0)
-    (c .before .before .before .before .before .before .pre .1) in
+    let start = c .before .before .before .before .before .before in
+    let h = places-small _ _ (start .pre .0) (start .pre .1) in
     omega arith
 
 returns : tie.Need-returns

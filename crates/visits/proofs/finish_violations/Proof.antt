@@ -53,16 +53,14 @@ same-length c = search needs
 
 returns : tie.Need-returns Inv-loop μ-loop
 returns c =
-    let at-loop-test = c .before .before .before .before .before in
-    let at-there = at-loop-test .before .before .before .before in
-    let entry = at-there in
-    let passed = c .before .before .before .before .before .before .loop .inv in
-    let long = entry .pre .2 in
-    let w = now (entry .args .w) in
-    let there = gradient-here _ w _ _ _ _ _ _ _ (passed .2) long (at-loop-test .loop-test .taken)
-    (c .before .before .before .before .weight .ensures) (c .before .before .violation-at .ensures) in
-    finished-bad _ w (now (entry .args .scratch)) _ long (passed .3) _ (passed .2) there (c .enum-told .given .1)
-    (at-loop-test .loop-test .taken)
+    let test = c .before .before .before .before .before in
+    let passed = test .before .loop .inv in
+    let start = test .before .before .before .before in
+    let long = start .pre .2 in
+    let w = now (start .args .w) in
+    let here = gradient-here _ w _ _ _ _ _ _ _ (passed .2) long (test .loop-test .taken) in
+    let there = here (c .before .before .before .before .weight .ensures) (c .before .before .violation-at .ensures) in
+    finished-bad _ w (now (start .args .scratch)) _ long (passed .3) _ (passed .2) there (c .enum-told .given .1) (test .loop-test .taken)
 
 enum-known-v : tie.Need-enum-known-v Inv-loop μ-loop
 enum-known-v c = search needs
@@ -90,13 +88,12 @@ loop-less c = search needs
 
 loop-again : tie.Need-loop-again Inv-loop μ-loop
 loop-again c =
-    let passed = c .before .before .before .before .before .before .before .before .loop .inv in
-    let there =
-    gradient-here _ (now (c .before .before .before .before .before .before .before .before .before .before .before .args .w)) _ _ _ _ _ _ _
-    (passed .2)
-    (c .before .before .before .before .before .before .before .before .before .before .before .pre .2)
-    (c .before .before .before .before .before .before .before .loop-test .taken)
-    (c .before .before .before .before .before .before .weight .ensures) (c .before .before .before .before .violation-at .ensures) in
+    let weighed = c .before .before .before .before .before .before in
+    let turn = weighed .before .before in
+    let start = turn .before .before .before in
+    let passed = turn .loop .inv in
+    let here = gradient-here _ (now (start .args .w)) _ _ _ _ _ _ _ (passed .2) (start .pre .2) (weighed .before .loop-test .taken) in
+    let there = here (weighed .weight .ensures) (c .before .before .before .before .violation-at .ensures) in
     let told = c .before .before .v .given .1 in (
       search needs,
       search needs,
