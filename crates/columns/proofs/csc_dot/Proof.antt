@@ -1,34 +1,23 @@
 -- `csc_dot`: the invariant is the sum over the stored entries passed; that each row is below n comes from soundness. Assumes nothing.
 use mathlib.Core.Path.{_≡_}
-use Prim.Native.Nat.{_≤_, _<_, _-_, _+_}
+use Prim.Native.Nat.{_≤_, _-_, _+_}
 use lib.ListN.{length, getD}
 use Rattle.doubles.specs.Num.{_⊗_, at}
 use Rattle.doubles.specs.Steps.{sum as total}
 use Rattle.doubles.proofs.Laws.Steps.{steps-none, steps-turn, steps-all}
 use Rattle.designs.specs.Design.{dot, csc}
-use native.Mathlib.Omega.{arith}
 use borrow.Author.Needs.{needs}
-use Rattle.columns.proofs.Laws.Stored.{stored-asked, stored-end, stored-below}
+use Rattle.columns.proofs.Laws.Stored.{Within, stored-asked, stored-within}
 use Rattle.columns.proofs.csc_dot.Statement.{statement}
 use Rattle.columns.proofs.csc_dot.Tie as tie
 
 abbrev Inv-loop : tie.InvT-loop
 Inv-loop starts rows values v start many s₀ k₀ s k =
-    (k ≤ many) × (start + many ≤ length values) × (length rows ≡ length values)
+    (k ≤ many) × Within start many (length v) rows values
     × (s ≡ total (λ i. at values (start + i) ⊗ at v (getD rows (start + i) 0)) k)
 
 abbrev μ-loop : tie.MeasureT-loop
 μ-loop starts rows values v start many s₀ k₀ s k = many - k
-
-abbrev entry : tie.At-loop Inv-loop μ-loop → tie.Start Inv-loop μ-loop
-entry c = c .before .before .before .before .before .before
-
-below : (c : tie.After-sample-of Inv-loop μ-loop) → c .sample-of .result .0 < entry (c .before .before) .args .shape .n
-below c =
-    let turn = c .before .before in
-    let start = entry turn in
-    stored-below (start .pre .1) _ (start .pre .0) (turn .before .stored-of .ensures) (turn .loop .k) _ (c .before .loop-test .taken)
-    (c .sample-of .ensures)
 
 stored-of-requires : tie.Need-stored-of-requires Inv-loop μ-loop
 stored-of-requires c κs = let start = c .before .before .before .before in stored-asked (start .pre .1) _ (start .pre .0)
@@ -36,7 +25,7 @@ stored-of-requires c κs = let start = c .before .before .before .before in stor
 loop-holds : tie.Need-loop-holds Inv-loop μ-loop
 loop-holds c =
     let start = c .before .before .before .before .before in
-    (search needs, stored-end (start .pre .1) _ (start .pre .0) (c .stored-of .ensures), start .pre .1 .entries, steps-none _ _)
+    (search needs, stored-within (start .pre .1) _ (start .pre .0) (c .stored-of .ensures) (start .pre .2), steps-none _ _)
 
 add-e : tie.Need-add-e Inv-loop μ-loop
 add-e c = search needs
@@ -51,7 +40,9 @@ shared-slice-read-s : tie.Need-shared-slice-read-s Inv-loop μ-loop
 shared-slice-read-s c = search needs
 
 reading-requires : tie.Need-reading-requires Inv-loop μ-loop
-reading-requires c κs = omega (arith, below (c .before))
+reading-requires c κs =
+    let sampled = c .before in
+    rw (sampled .sample-of .ensures) (sampled .before .before .loop .inv .1 .2 _ (sampled .before .loop-test .taken))
 
 add-k : tie.Need-add-k Inv-loop μ-loop
 add-k c = search needs
@@ -63,8 +54,7 @@ loop-again : tie.Need-loop-again Inv-loop μ-loop
 loop-again c = (
   search needs,
   search needs,
-  search needs,
-  steps-turn _ _ _ _ _ (c .before .before .before .before .loop .inv .3)
+  steps-turn _ _ _ _ _ (c .before .before .before .before .loop .inv .2)
       (rw (c .reading .ensures, c .before .before .sample-of .ensures)),
 )
 
@@ -73,7 +63,7 @@ unfolding dot csc
 returns c =
     let turn = c .before in
     let stored = turn .before .stored-of .ensures in
-    rw (← stored .1, ← stored .0) (steps-all _ _ _ _ _ (turn .loop .inv .3) (turn .loop .inv .0) (c .loop-test .left))
+    rw (← stored .1, ← stored .0) (steps-all _ _ _ _ _ (turn .loop .inv .2) (turn .loop .inv .0) (c .loop-test .left))
 
 pub csc-dot-spec : {M : Type 1} → statement M
 csc-dot-spec =
