@@ -1,7 +1,7 @@
 // Inner functions over single columns of a design in either layout. The caller has tested the design, so nothing is tested here and nothing
 // is exported. A column operation touches the column's stored entries and nothing of size n or p besides.
 ghost use mathlib.Core.Path.{_≡_};
-ghost use Prim.Native.Nat.{ℕ, _+_, _*_, _<_, _≤_};
+ghost use Prim.Native.Nat.{ℕ, _+_, _-_, _*_, _<_, _≤_};
 ghost use lib.ListN.{length, getD, set};
 ghost use Rattle.doubles.specs.Num.{#0, at, finite};
 ghost use Rattle.doubles.specs.Steps.{all, tab};
@@ -89,6 +89,26 @@ pub fn all_finite(xs: &[f64]) -> bool
     true
 }
 
+// Where a sparse column lies among the stored entries: its first, and how many.
+pub struct Stored {
+    pub start: usize,
+    pub many: usize,
+}
+
+pub fn stored_of(starts: &[u32], feature: Feature) -> Stored
+    requires { ⌜ (feature .0 + 1 < length (now starts)) × (getD (now starts) (feature .0) 0 ≤ getD (now starts) (feature .0 + 1) 0) ⌝ }
+    ensures { λ r. ⌜ (r .start ≡ getD (now (starts .entry)) (feature .0) 0)
+        × (r .many ≡ getD (now (starts .entry)) (feature .0 + 1) 0 - getD (now (starts .entry)) (feature .0) 0) ⌝ }
+{
+    let j = feature.0;
+    let start = starts[j] as usize;
+    let end = starts[j + 1] as usize;
+    Stored {
+        start,
+        many: end - start,
+    }
+}
+
 // ---- column · v
 
 fn dense_dot(shape: Shape, values: &[f64], feature: Feature, v: &[f64]) -> f64
@@ -119,10 +139,9 @@ fn csc_dot(
     ensures { λ r. ⌜ (let X = def.csc (shape .n) (shape .p) (now (starts .entry)) (now (rows .entry)) (now (values .entry)) in
         r ≡ def.dot X (feature .0) (now (v .entry))) ⌝ }
 {
-    let j = feature.0;
-    let start = starts[j] as usize;
-    let end = starts[j + 1] as usize;
-    let many = end - start;
+    let stored = stored_of(starts, feature);
+    let start = stored.start;
+    let many = stored.many;
     let mut s = 0.0;
     let mut k = 0;
     while k < many {
@@ -183,12 +202,11 @@ fn csc_update(
     ensures { λ _. ⌜ (let X = def.csc (shape .n) (shape .p) (now (starts .entry)) (now (rows .entry)) (now (values .entry)) in
         now (fit .exit) ≡ def.moved X (feature .0) d (now (fit .entry))) ⌝ }
 {
-    let j = feature.0;
-    let start = starts[j] as usize;
-    let end = starts[j + 1] as usize;
-    let count = end - start;
+    let stored = stored_of(starts, feature);
+    let start = stored.start;
+    let many = stored.many;
     let mut k: usize = 0;
-    while k < count {
+    while k < many {
         let e = start + k;
         let sample = sample_of(rows, e);
         set_reading(fit, sample, reading(fit, sample) + d * values[e]);
@@ -231,10 +249,9 @@ fn csc_finite(
     ensures { λ r. ⌜ (let X = def.csc (shape .n) (shape .p) (now (starts .entry)) (now (rows .entry)) (now (values .entry)) in
         r ≡ def.finiteAt X (feature .0) (now (fit .entry))) ⌝ }
 {
-    let j = feature.0;
-    let start = starts[j] as usize;
-    let end = starts[j + 1] as usize;
-    let many = end - start;
+    let stored = stored_of(starts, feature);
+    let start = stored.start;
+    let many = stored.many;
     let mut k = 0;
     while k < many {
         let sample = sample_of(rows, start + k);

@@ -10,6 +10,7 @@ ghost use Rattle.designs.specs.Design as def;
 ghost use Rattle.designs.specs.Inner.Sound.{Sound, Whole};
 use columns::clear;
 use columns::column_dot;
+use columns::stored_of;
 use designs::Feature;
 use designs::Layout;
 use designs::Shape;
@@ -186,10 +187,9 @@ fn csc_square(shape: Shape, starts: &[u32], rows: &[u32], values: &[f64], featur
     ensures { λ r. ⌜ (let X = def.csc (shape .n) (shape .p) (now (starts .entry)) (now (rows .entry)) (now (values .entry)) in
         r ≡ def.squares X (feature .0)) ⌝ }
 {
-    let j = feature.0;
-    let start = starts[j] as usize;
-    let end = starts[j + 1] as usize;
-    let many = end - start;
+    let stored = stored_of(starts, feature);
+    let start = stored.start;
+    let many = stored.many;
     let mut s = 0.0;
     let mut k = 0;
     while k < many {

@@ -1,65 +1,31 @@
 -- `csc_finite`: the invariant is that the fit is finite at the entries passed; that each row is below n comes from soundness. Assumes nothing.
 use borrow.Author.Needs.{needs}
-use mathlib.Core.Path.{_≡_, sym, _∙_}
+use mathlib.Core.Path.{_≡_}
 use mathlib.Core.Bool.{true}
-use Prim.Native.Nat.{_≤_, _<_, _-_, _+_}
+use Prim.Native.Nat.{_≤_, _-_, _+_}
 use lib.ListN.{length, getD}
-use denote.Ref.{now}
 use Rattle.doubles.specs.Num.{at, finite}
 use Rattle.doubles.specs.Steps.{all}
 use Rattle.doubles.proofs.Laws.Steps.{steps-none, steps-all, all-more, all-broken}
-use Rattle.designs.proofs.Laws.Layouts.{column-end, row-below}
 use Rattle.designs.specs.Design.{csc, finiteAt}
-use native.Mathlib.Omega.{arith}
+use Rattle.columns.proofs.Laws.Stored.{Within, stored-asked, stored-within}
 use Rattle.columns.proofs.csc_finite.Statement.{statement}
 use Rattle.columns.proofs.csc_finite.Tie as tie
 
 abbrev Inv-loop : tie.InvT-loop
-Inv-loop starts rows values fit j start end many k₀ k = (k ≤ many) × (start + many ≤ length values) × (length rows ≡ length values)
+Inv-loop starts rows values fit start many k₀ k = (k ≤ many) × Within start many (length fit) rows values
     × (true ≡ all (λ i. finite (at fit (getD rows (start + i) 0))) k)
 
 abbrev μ-loop : tie.MeasureT-loop
-μ-loop starts rows values fit j start end many k₀ k = many - k
+μ-loop starts rows values fit start many k₀ k = many - k
 
-abbrev entry : tie.At-loop Inv-loop μ-loop → tie.Start Inv-loop μ-loop
-entry c = c .before .before .before .before .before .before .before
-
-below : (c : tie.After-sample-of Inv-loop μ-loop) → c .sample-of .result .0 < entry (c .before .before) .args .shape .n
-below c =
-    let turn = c .before .before in
-    let start = entry turn in
-    let e = row-below (start .pre .1) (start .args .feature .0) (start .pre .0) (turn .loop .k) (c .before .loop-test .taken) in
-    let q = c .sample-of .ensures in
-    omega arith
-
-mul-start : tie.Need-mul-start Inv-loop μ-loop
-mul-start c = let e = c .before .before .before .before .pre .1 .columns in omega arith
-
-shared-slice-read-start : tie.Need-shared-slice-read-start Inv-loop μ-loop
-shared-slice-read-start c = let e = c .before .before .before .before .before .pre .1 .columns in omega arith
-
-cast-start : tie.Need-cast-start Inv-loop μ-loop
-cast-start c = omega (arith, c .shared-slice-known5 .given (c .before .before .before .before .before .args .feature .0))
-
-add-end : tie.Need-add-end Inv-loop μ-loop
-add-end c = let e = c .before .before .before .before .before .pre .1 .columns in omega arith
-
-mul-end : tie.Need-mul-end Inv-loop μ-loop
-mul-end c = let e = c .before .before .before .before .before .pre .1 .columns in omega arith
-
-shared-slice-read-end : tie.Need-shared-slice-read-end Inv-loop μ-loop
-shared-slice-read-end c = let e = c .before .before .before .before .before .before .pre .1 .columns in omega arith
-
-cast-end : tie.Need-cast-end Inv-loop μ-loop
-cast-end c = omega (arith, c .shared-slice-known6 .given (c .before .before .before .before .before .before .args .feature .0 + 1))
-
-sub-many : tie.Need-sub-many Inv-loop μ-loop
-sub-many c = let start = c .before .before .before .before .before .before in start .pre .1 .rising .up _ (start .pre .0)
+stored-of-requires : tie.Need-stored-of-requires Inv-loop μ-loop
+stored-of-requires c κs = let start = c .before .before .before .before in stored-asked (start .pre .1) _ (start .pre .0)
 
 loop-holds : tie.Need-loop-holds Inv-loop μ-loop
 loop-holds c =
-    let start = c .before .before .before .before .before .before in
-    (search needs, column-end (start .pre .1) _ (start .pre .0), start .pre .1 .entries, steps-none _ _)
+    let start = c .before .before .before .before .before in
+    (search needs, stored-within (start .pre .1) _ (start .pre .0) (c .stored-of .ensures) (start .pre .2), steps-none _ _)
 
 add-sample-of : tie.Need-add-sample-of Inv-loop μ-loop
 add-sample-of c = search needs
@@ -68,7 +34,7 @@ sample-of-requires : tie.Need-sample-of-requires Inv-loop μ-loop
 sample-of-requires c κs = search needs
 
 reading-requires : tie.Need-reading-requires Inv-loop μ-loop
-reading-requires c κs = omega (arith, below c)
+reading-requires c κs = rw (c .sample-of .ensures) (c .before .before .loop .inv .1 .2 _ (c .before .loop-test .taken))
 
 is-finite-requires : tie.Need-is-finite-requires Inv-loop μ-loop
 is-finite-requires c κs = search needs
@@ -78,9 +44,12 @@ unfolding finiteAt csc
 returns c =
     let sampled = c .before .before .before in
     let turn = sampled .before .before in
-    let broken = all-broken _ _ _ (turn .loop .inv .3) in
-    broken (rw (← sampled .sample-of .ensures, ← c .before .before .reading .ensures, ← c .before .is-finite .ensures) (c .if1 .left))
-    (sampled .before .loop-test .taken)
+    let stored = turn .before .stored-of .ensures in
+    let broken = all-broken _ _ _ (turn .loop .inv .2) in
+    let read = c .before .before in
+    rw (← stored .1, ← stored .0)
+    (broken (rw (← sampled .sample-of .ensures, ← read .reading .ensures, ← c .before .is-finite .ensures) (c .if1 .left))
+    (sampled .before .loop-test .taken))
 
 add-k : tie.Need-add-k Inv-loop μ-loop
 add-k c = search needs
@@ -92,14 +61,16 @@ loop-again : tie.Need-loop-again Inv-loop μ-loop
 loop-again c = (
   search needs,
   search needs,
-  search needs,
-  all-more _ _ (c .before .before .before .before .before .loop .inv .3)
+  all-more _ _ (c .before .before .before .before .before .loop .inv .2)
       (rw (← c .before .before .before .sample-of .ensures, ← c .before .before .reading .ensures, ← c .before .is-finite .ensures) (c .if1 .taken)),
 )
 
 returns-2 : tie.Need-returns-2 Inv-loop μ-loop
 unfolding finiteAt csc
-returns-2 c = steps-all _ _ _ _ _ (c .before .loop .inv .3) (c .before .loop .inv .0) (c .loop-test .left)
+returns-2 c =
+    let turn = c .before in
+    let stored = turn .before .stored-of .ensures in
+    rw (← stored .1, ← stored .0) (steps-all _ _ _ _ _ (turn .loop .inv .2) (turn .loop .inv .0) (c .loop-test .left))
 
 pub csc-finite-spec : {M : Type 1} → statement M
 csc-finite-spec =
@@ -107,14 +78,7 @@ csc-finite-spec =
     (tie.spec
     Inv-loop
     μ-loop
-    mul-start
-    shared-slice-read-start
-    cast-start
-    add-end
-    mul-end
-    shared-slice-read-end
-    cast-end
-    sub-many
+    stored-of-requires
     loop-holds
     add-sample-of
     sample-of-requires

@@ -8,14 +8,19 @@ use lib.ListN.{length}
 use lib.Ieee.{Float}
 use borrow.Author.Tests.{leb-true, ltb-true}
 use Rattle.doubles.specs.Num.{_and_}
-use Rattle.doubles.specs.Answer.{none}
+use Rattle.doubles.specs.Answer.{Fault, none, verdictOf, left}
+use Rattle.doubles.specs.declared.Refusal.{Refusal}
+use Rattle.doubles.specs.declared.Verdict.{Verdict}
+use Rattle.doubles.specs.declared.Verdict.the-variants as Verdict
 use Rattle.doubles.proofs.Laws.Choice.{and-both}
-use Rattle.doubles.proofs.Laws.Verdict.{spared}
+use Rattle.doubles.proofs.Laws.Verdict.{spared, stop-left, pass}
 use Rattle.designs.specs.Checks.{sizes}
 use Rattle.designs.specs.Design.{design, denseShape, nothing, laid, dot, moved}
 use Rattle.designs.specs.Inner.Sound.{Held, Whole}
 use Rattle.designs.specs.declared.Shape.{Shape}
 use Rattle.designs.proofs.Laws.Passed.{sized, dense-values}
+use Rattle.plain_numbers.specs.Codes.{numberOfFault, placeOfFault}
+use Rattle.plain_numbers.proofs.Laws.Codes.{same-told}
 use Rattle.kernels.specs.Kernels.{kernelFault, productLeft, updateLeft}
 
 module _ {n p : ℕ} (values : List Float) (column : ℕ) {s : Shape} (hs : s ≡ denseShape n p) where
@@ -32,12 +37,22 @@ module _ {n p : ℕ} (values : List Float) (column : ℕ) {s : Shape} (hs : s �
         leb-true n places (spared _ 3 none (a .1) .0),
       )
 
-  pub product-told : (v : List Float) (old x : Float) → none ≡ kernelFault n p values column (length v)
-      → x ≡ dot (design s nothing nothing values) column v → x ≡ productLeft n p values column v old
+  pub product-told : (v : List Float) (old x : Float) → x ≡ dot (design s nothing nothing values) column v
+      → none ≡ kernelFault n p values column (length v) → x ≡ productLeft n p values column v old
   unfolding productLeft laid
-  product-told v old x e h = rw (← e) (rw hs at h)
+  product-told v old x h e = rw (← e) (rw hs at h)
 
-  pub update-told : (d : Float) (fit x : List Float) → none ≡ kernelFault n p values column (length fit)
-      → x ≡ moved (design s nothing nothing values) column d fit → x ≡ updateLeft n p values column d fit
+  pub update-told : (d : Float) (fit x : List Float) → x ≡ moved (design s nothing nothing values) column d fit
+      → none ≡ kernelFault n p values column (length fit) → x ≡ updateLeft n p values column d fit
   unfolding updateLeft laid
-  update-told d fit x e h = rw (← e) (rw hs at h)
+  update-told d fit x h e = rw (← e) (rw hs at h)
+
+-- the verdict told, and what is left: behind tests that pass, what holds there; refused, what stood there
+module _ (v : Verdict) {f : Fault} {number place : ℕ} (tested : verdictOf v ≡ f)
+    (told : (number ≡ numberOfFault (verdictOf v)) × (place ≡ placeOfFault (verdictOf v))) where
+  pub passed-told : {A : Type 0} → v ≡ Verdict.Fine → (none ≡ f → A) → (number ≡ numberOfFault f) × (place ≡ placeOfFault f) × A
+  passed-told h holds = let t = same-told tested told in (t .0, t .1, holds (pass v tested h))
+
+  pub refused-told : {A : Type 0} (new old : A) (r : Refusal) → v ≡ Verdict.Refused r
+      → (number ≡ numberOfFault f) × (place ≡ placeOfFault f) × (old ≡ left f new old)
+  refused-told new old r h = let t = same-told tested told in (t .0, t .1, stop-left v tested new old r h)

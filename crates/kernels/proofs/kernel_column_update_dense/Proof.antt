@@ -1,8 +1,7 @@
 -- `kernel_column_update_dense`: behind the tests, the column's function; refused, nothing. The verdict is told either way. Assumes nothing.
-use Rattle.doubles.proofs.Laws.Verdict.{stop-left, pass}
-use Rattle.plain_numbers.proofs.Laws.Codes.{same-told}
+use Rattle.doubles.proofs.Laws.Verdict.{pass}
 use Rattle.kernels.specs.Kernels.{updateLeft}
-use Rattle.kernels.proofs.Laws.Kernels.{ready, update-told}
+use Rattle.kernels.proofs.Laws.Kernels.{ready, update-told, passed-told, refused-told}
 use borrow.Author.Needs.{needs}
 use Rattle.kernels.proofs.kernel_column_update_dense.Statement.{statement}
 use Rattle.kernels.proofs.kernel_column_update_dense.Tie as tie
@@ -44,18 +43,14 @@ returns c =
     let at-shape = at-column .before .before .before .before in
     let at-fine = at-shape .before in
     let at-told = at-fine .before .before in
-    let tested = at-told .before .before .admit-column .ensures in
-    let told = same-told tested (at-told .tell-verdict .ensures) in
-    let passed = pass _ tested (at-fine .enum-told .given .1) in
-    (told .0, told .1, update-told _ _ (at-shape .dense .ensures) _ _ _ passed (at-column .column-update .ensures))
+    passed-told _ (at-told .before .before .admit-column .ensures) (at-told .tell-verdict .ensures) (at-fine .enum-told .given .1)
+    (update-told _ _ (at-shape .dense .ensures) _ _ _ (at-column .column-update .ensures))
 
 returns-2 : tie.Need-returns-2
 unfolding updateLeft
 returns-2 c =
     let at-told = c .before .before in
-    let tested = at-told .before .before .admit-column .ensures in
-    let told = same-told tested (at-told .tell-verdict .ensures) in
-    (told .0, told .1, stop-left _ tested _ _ _ (c .enum-told2 .given .1))
+    refused-told _ (at-told .before .before .admit-column .ensures) (at-told .tell-verdict .ensures) _ _ _ (c .enum-told2 .given .1)
 
 pub kernel-column-update-dense-spec : {M : Type 1} → statement M
 kernel-column-update-dense-spec =
