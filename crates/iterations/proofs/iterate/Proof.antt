@@ -13,8 +13,11 @@ use Rattle.epochs.proofs.Laws.Ready.{room-for}
 use Rattle.iterations.proofs.Laws.Turns.{start-most, set-built, set-most, set-features, part-violations, set-chosen, numbers-known}
 use Rattle.iterations.proofs.Laws.Turns.{shown-going, shown-stopped, shown-bad, grown-by, grown-none}
 use Rattle.doubles.proofs.Laws.Parts.{part-long}
-use Rattle.epochs.specs.Inner.Reading.{countsOf}
+use Rattle.epochs.specs.declared.Counts.{Counts}
 use Rattle.epochs.specs.declared.InnerStep.{InnerStep}
+use Rattle.epochs.specs.Inner.Reading.{countsOf}
+use Rattle.iterations.specs.Inner.Reading.{Grown}
+use Rattle.iterations.specs.declared.Totals.{Totals}
 use denote.Ref.{now}
 use borrow.Author.Needs.{needs}
 use Rattle.iterations.proofs.iterate.Statement.{statement}
@@ -29,6 +32,12 @@ sized c = c .before .before .before .before .before
 
 abbrev built : tie.After-run-epochs → tie.After-construct-ws
 built c = c .before .before .before .before .before .before .before .before
+
+abbrev ran : tie.After-slice-known8 → tie.After-run-epochs
+ran c = c .before .before .before .before .before .before
+
+abbrev totals : tie.After-run-epochs → Totals
+totals c = entry (sized (built c)) .args .totals
 
 abbrev task : tie.Start → Task
 task c =
@@ -59,6 +68,11 @@ chosen : (c : tie.After-construct-ws) → let start = entry (sized c) in
 chosen c =
     let made = set-built _ _ _ (few (sized c)) _ _ (c .construct-ws .ensures .0) (c .construct-ws .ensures .1) in
     set-chosen _ _ _ _ _ _ _ (sized c .start-size .ensures) (measured (entry (sized c))) made
+
+-- the totals grow by what the epochs counted, however they end
+grown : (c : tie.After-run-epochs) (d : Counts) → countsOf (c .run-epochs .result) (totals c .counts) ≡ d
+    → Grown (totals c) (record { violation = entry (sized (built c)) .args .v; iterations = totals c .iterations + 1; counts = d })
+grown c d counted = grown-by (totals c) _ (c .run-epochs .result) d counted (c .run-epochs .ensures .2) (c .run-epochs .ensures .3)
 
 -- ---- the needs
 add-from : tie.Need-add-from
@@ -116,8 +130,7 @@ enum-known-c c = search needs
 
 one-more-requires : tie.Need-one-more-requires
 one-more-requires c κs =
-    let behind = c .before .before .before .before .before .before .before .before .before in
-    let iterations = entry (sized (built behind)) .pre .2 .iterations in
+    let iterations = entry (sized (built (ran (c .before .before .before)))) .pre .2 .iterations in
     omega arith
 
 enum-known-c-2 : tie.Need-enum-known-c-2
@@ -125,8 +138,7 @@ enum-known-c-2 c = search needs
 
 one-more-requires-2 : tie.Need-one-more-requires-2
 one-more-requires-2 c κs =
-    let behind = c .before .before .before .before .before .before .before .before .before in
-    let iterations = entry (sized (built behind)) .pre .2 .iterations in
+    let iterations = entry (sized (built (ran (c .before .before .before)))) .pre .2 .iterations in
     omega arith
 
 enum-told : tie.Need-enum-told
@@ -146,16 +158,11 @@ same-length-4 c = search needs
 
 returns : tie.Need-returns
 returns c =
-    let behind = c .before .before .before .before .before .before .before .before .before .before in
-    let e = behind .run-epochs .ensures in
-    let a = entry (sized (built behind)) .args in
+    let behind = ran (c .before .before .before .before) in
     let is = c .before .before .c .given .1 in
-    let shown = shown-going _ _ _ _ _ _ _ _ _ (chosen (built behind)) _ _ _ _ (e .0) in
-    let counted = ap (λ (r : InnerStep). countsOf r (a .totals .counts)) is in (
-      (λ sets. rw (c .one-more .ensures) (shown sets _ is)),
-      e .1,
-      rw (c .one-more .ensures) (grown-by (a .totals) (a .v) (behind .run-epochs .result) _ counted (e .2) (e .3)),
-    )
+    let shown = shown-going _ _ _ _ _ _ _ _ _ (chosen (built behind)) _ _ _ _ (behind .run-epochs .ensures .0) in
+    let counted = ap (λ (r : InnerStep). countsOf r (totals behind .counts)) is in
+    rw (c .one-more .ensures) ((λ sets. shown sets _ is), behind .run-epochs .ensures .1, grown behind _ counted)
 
 same-length-5 : tie.Need-same-length-5
 same-length-5 c = search needs
@@ -171,16 +178,11 @@ same-length-8 c = search needs
 
 returns-2 : tie.Need-returns-2
 returns-2 c =
-    let behind = c .before .before .before .before .before .before .before .before .before .before in
-    let e = behind .run-epochs .ensures in
-    let a = entry (sized (built behind)) .args in
+    let behind = ran (c .before .before .before .before) in
     let is = c .before .before .c2 .given .1 in
-    let shown = shown-stopped _ _ _ _ _ _ _ _ _ (chosen (built behind)) _ _ _ _ (e .0) in
-    let counted = ap (λ (r : InnerStep). countsOf r (a .totals .counts)) is in (
-      (λ sets. rw (c .one-more2 .ensures) (shown sets _ is)),
-      e .1,
-      rw (c .one-more2 .ensures) (grown-by (a .totals) (a .v) (behind .run-epochs .result) _ counted (e .2) (e .3)),
-    )
+    let shown = shown-stopped _ _ _ _ _ _ _ _ _ (chosen (built behind)) _ _ _ _ (behind .run-epochs .ensures .0) in
+    let counted = ap (λ (r : InnerStep). countsOf r (totals behind .counts)) is in
+    rw (c .one-more2 .ensures) ((λ sets. shown sets _ is), behind .run-epochs .ensures .1, grown behind _ counted)
 
 same-length-9 : tie.Need-same-length-9
 same-length-9 c = search needs
@@ -196,7 +198,7 @@ same-length-12 c = search needs
 
 returns-3 : tie.Need-returns-3
 returns-3 c =
-    let behind = c .before .before .before .before .before .before .before .before in
+    let behind = ran (c .before .before) in
     let e = behind .run-epochs .ensures in
     ((λ sets. shown-bad _ _ _ _ _ _ _ _ _ (chosen (built behind)) _ _ _ _ (e .0) sets (c .enum-told .given .1)), e .1, grown-none _)
 
