@@ -1,3 +1,3 @@
 -- What a reader believes of the program: what it prints for a file.
 pub mod Printed
-pub mod InPlaces
+pub mod Inner

@@ -3,7 +3,7 @@ ghost use mathlib.Core.Path.{_≡_};
 ghost use lib.ListN.{length};
 ghost use Rattle.listings.specs.Call.{writtenOf, Short};
 ghost use Rattle.answers.specs.Printed as def;
-ghost use Rattle.answers.specs.InPlaces as here;
+ghost use Rattle.answers.specs.Inner.InPlaces as here;
 use definition::Fit;
 use files::Parsed;
 use files::Sizes;

@@ -2,5 +2,5 @@
 pub mod Bytes
 pub mod Problem
 pub mod Call
-pub mod Places
 pub mod Written
+pub mod Inner

@@ -6,7 +6,7 @@ ghost use lib.ListN.{length};
 ghost use Rattle.doubles.specs.Answer.{refused as refused'};
 ghost use Rattle.files.specs.Problem as def;
 ghost use Rattle.files.specs.Call as call;
-ghost use Rattle.files.specs.Places as here;
+ghost use Rattle.files.specs.Inner.Places as here;
 use crate::inner::f64_at;
 use crate::inner::put_doubles;
 use crate::inner::put_indices;

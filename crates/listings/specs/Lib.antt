@@ -1,4 +1,4 @@
 -- What a reader believes of listings.
 pub mod Listing
 pub mod Call
-pub mod Wrote
+pub mod Inner

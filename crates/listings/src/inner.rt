@@ -4,7 +4,7 @@ ghost use lib.Dec.{leb};
 ghost use lib.ListN.{length};
 ghost use Rattle.doubles.specs.Num.{_and_};
 ghost use Rattle.listings.specs.Listing as lines;
-ghost use Rattle.listings.specs.Wrote.{Room, Wrote};
+ghost use Rattle.listings.specs.Inner.Wrote.{Room, Wrote};
 use definition::Report;
 use doubles::Refusal;
 

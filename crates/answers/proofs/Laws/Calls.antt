@@ -20,7 +20,7 @@ use Rattle.files.specs.declared.Sizes.{Sizes}
 use Rattle.listings.specs.Call.{writeCall, writeLeft}
 use Rattle.listings.proofs.Laws.Calls.{write-fits}
 use Rattle.answers.specs.Printed.{problemFit, problemLeft, printedFor, printed, textCall, textLeft, answerCall, answerLeft}
-use Rattle.answers.specs.InPlaces.{ProblemInside, problemIn}
+use Rattle.answers.specs.Inner.InPlaces.{ProblemInside, problemIn}
 
 take-few : (p m : ℕ) (l : List Float) → p ≤ length l → p ≤ m → length (take p l) ≤ m
 take-few p m l h k = le-trans (le-of-eq (length-take-le p l h)) k

@@ -8,7 +8,7 @@ use denote.Ref.{now}
 use Rattle.definition.specs.Call.{fitOf, lent}
 use Rattle.answers.proofs.Laws.Calls.{fit-listed}
 use Rattle.answers.specs.Printed.{problemFit, problemLeft}
-use Rattle.answers.specs.InPlaces.{problemIn}
+use Rattle.answers.specs.Inner.InPlaces.{problemIn}
 use borrow.Author.Needs.{needs}
 use Rattle.answers.proofs.fit_listing.Statement.{statement}
 use Rattle.answers.proofs.fit_listing.Tie as tie

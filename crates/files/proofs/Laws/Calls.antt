@@ -15,7 +15,7 @@ use Rattle.designs.specs.declared.Shape.{Shape}
 use Rattle.definition.specs.declared.Settings.{Settings}
 use Rattle.files.specs.Problem.{readAll, headerShape, headerSettings, goodHeader}
 use Rattle.files.specs.Call.{problem, readWhole, parsed, Places, places, placesSuffice, readProblem, sizesOf, readCall, readLeft}
-use Rattle.files.specs.Places.{Header, Counted, Suffice, readWholeAt}
+use Rattle.files.specs.Inner.Places.{Header, Counted, Suffice, readWholeAt}
 use Rattle.files.specs.declared.Cursor.{Cursor}
 use Rattle.files.specs.declared.Sizes.{Sizes}
 

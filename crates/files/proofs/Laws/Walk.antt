@@ -16,7 +16,7 @@ use Rattle.doubles.proofs.Laws.Steps.{length-tab}
 use Rattle.doubles.proofs.Laws.Buffer.{length-put, put-behind}
 use Rattle.files.specs.Bytes.{u32, f64, doubles, indices}
 use Rattle.files.specs.Problem.{Read, nothingRead, tagAt, lengthAt, whole, stored, goodHeader, goodField, goodAt, good, joined, nextRead, readOn, readAll}
-use Rattle.files.specs.Places.{Header, Headed, Counted, grownBy, advanced, Space, Suffice, storedIn, indexedIn, keptIf}
+use Rattle.files.specs.Inner.Places.{Header, Headed, Counted, grownBy, advanced, Space, Suffice, storedIn, indexedIn, keptIf}
 use Rattle.files.specs.declared.Cursor.{Cursor}
 use Rattle.files.proofs.Laws.Fields.{head-inside, body-inside, header-long}
 

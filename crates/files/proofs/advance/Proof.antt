@@ -1,6 +1,6 @@
 -- `advance`: each count grows with its own tag. Assumes nothing.
 use native.Mathlib.Omega.{arith}
-use Rattle.files.specs.Places.{advanced}
+use Rattle.files.specs.Inner.Places.{advanced}
 use borrow.Author.Needs.{needs}
 use Rattle.files.proofs.advance.Statement.{statement}
 use Rattle.files.proofs.advance.Tie as tie

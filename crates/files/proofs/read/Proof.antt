@@ -8,7 +8,7 @@ use Rattle.doubles.specs.Buffer.{put}
 use Rattle.files.specs.Problem.{readAll}
 use Rattle.files.proofs.Laws.Calls.{places-same, room-of, too-long, not-ended, some-read, no-room, read-well, sizes-read, sizes-inside}
 use Rattle.files.specs.Call.{Places, placesSuffice, places}
-use Rattle.files.specs.Places.{Header}
+use Rattle.files.specs.Inner.Places.{Header}
 use mathlib.Core.Bool.{false≢true}
 use borrow.Author.Needs.{needs}
 use Rattle.files.proofs.read.Statement.{statement}

@@ -5,7 +5,7 @@ use native.Mathlib.Omega.{arith}
 use lib.ListN.{length}
 use denote.Ref.{now}
 use borrow.Author.Tests.{ne-eqb}
-use Rattle.files.specs.Places.{Space}
+use Rattle.files.specs.Inner.Places.{Space}
 use Rattle.files.proofs.Laws.Fields.{head-inside, body-inside}
 use borrow.Author.Needs.{needs}
 use Rattle.files.proofs.store.Statement.{statement}

@@ -16,7 +16,7 @@ use Rattle.doubles.specs.Answer.{none, unless, after, left}
 use Rattle.definition.specs.declared.Report.{Report}
 use Rattle.listings.specs.Listing.{listed}
 use Rattle.listings.specs.Call.{writeFault, writeCall, writeLeft}
-use Rattle.listings.specs.Wrote.{Wrote}
+use Rattle.listings.specs.Inner.Wrote.{Wrote}
 
 pub sizes-within : (p n : ℕ) (r : Bool) → r ≡ (leb p 32 and leb n 256) → r ≡ true → (p ≤ 32) × (n ≤ 256)
 sizes-within p n r e h = let b = and-both (leb p 32) (leb n 256) (sym e ∙ h) in (leb-true _ _ (b .0), leb-true _ _ (b .1))

@@ -10,7 +10,7 @@ use Rattle.doubles.specs.Buffer.{put}
 use Rattle.doubles.proofs.Laws.Buffer.{length-put, put-behind, put-more}
 use Rattle.doubles.proofs.Laws.Parts.{tab-getD}
 use Rattle.listings.specs.Listing.{_and-then_}
-use Rattle.listings.specs.Wrote.{Room, Wrote}
+use Rattle.listings.specs.Inner.Wrote.{Room, Wrote}
 
 -- a text written place by place: one place more, and once all are
 pub text-more : (l m : List ℕ) (a k : ℕ) (xs : List ℕ) → m ≡ put l a (tab (λ i. getD xs i 0) k) → a + k < length l

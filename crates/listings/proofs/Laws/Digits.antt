@@ -13,7 +13,7 @@ use Rattle.doubles.specs.Num.{pick}
 use Rattle.doubles.specs.Steps.{steps}
 use Rattle.io.specs.Digits.{digits, glyph, Fewest}
 use Rattle.listings.specs.Listing.{digitCount, decimal, hex16}
-use Rattle.listings.specs.Wrote.{Room}
+use Rattle.listings.specs.Inner.Wrote.{Room}
 
 -- one more for each of the first j powers that n reaches
 abbrev counted : ℕ → ℕ → ℕ

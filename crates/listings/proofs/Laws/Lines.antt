@@ -14,7 +14,7 @@ use Rattle.doubles.proofs.Laws.Steps.{steps-more}
 use Rattle.definition.specs.declared.Report.{Report}
 use Rattle.listings.specs.Listing.{_and-then_, codes, digitCount, decimal, hex16, bitsOf, newline, labelled}
 use Rattle.listings.specs.Listing.{countLine, bitsLine, entryLine, entryLines, reportLines, listing, refusedLine}
-use Rattle.listings.specs.Wrote.{Room, Wrote}
+use Rattle.listings.specs.Inner.Wrote.{Room, Wrote}
 use Rattle.listings.proofs.Laws.Chain.{length-and-then, wrote-both, room-next}
 use Rattle.listings.proofs.Laws.Digits.{digits-few, digits-below, length-decimal, length-hex16}
 

@@ -3,7 +3,7 @@ use mathlib.Core.Path.{_≡_, refl}
 use Prim.Native.Nat.{_≤_, _-_}
 use lib.ListN.{length}
 use Rattle.listings.specs.Listing.{entryLines}
-use Rattle.listings.specs.Wrote.{Wrote}
+use Rattle.listings.specs.Inner.Wrote.{Wrote}
 use Rattle.listings.proofs.Laws.Lines.{lines-none, lines-room, lines-turn, lines-all}
 use borrow.Author.Needs.{needs}
 use Rattle.listings.proofs.inner.put_entry_lines.Statement.{statement}
