@@ -22,10 +22,23 @@ use calls::Buffers;
 use cases::{csc, dense, line, Case, Ending, Penalty};
 use timing::{time, Row, MICROSECONDS, MILLISECONDS};
 
-/// Every buffer holds zeros before a call, of whichever program.
-fn lent(case: &Case) -> Buffers {
-    let [w, fit, indices, scratch] = case.room().map(|length| length as usize);
-    Buffers { w: vec![0.0; w], fit: vec![0.0; fit], indices: vec![0; indices], scratch: vec![0.0; scratch] }
+/// The buffers of a fit. Every one holds zeros before a call, of whichever program.
+struct Zeros {
+    w: Vec<f64>,
+    fit: Vec<f64>,
+    indices: Vec<u32>,
+    scratch: Vec<f64>,
+}
+
+impl Zeros {
+    fn of(case: &Case) -> Zeros {
+        let [w, fit, indices, scratch] = case.room().map(|length| length as usize);
+        Zeros { w: vec![0.0; w], fit: vec![0.0; fit], indices: vec![0; indices], scratch: vec![0.0; scratch] }
+    }
+
+    fn lent(&mut self) -> Buffers<'_> {
+        Buffers { w: &mut self.w, fit: &mut self.fit, indices: &mut self.indices, scratch: &mut self.scratch }
+    }
 }
 
 fn longer(case: Case) -> Case {
@@ -47,9 +60,9 @@ fn fits(name: &str, case: &Case, turns: usize, with_others: bool) {
     let mut inputs = steps::Inputs::of(case);
     let mut found = None;
     for _ in 0..turns {
-        let mut buffers = lent(case);
+        let mut zeros = Zeros::of(case);
         let mut ending = None;
-        ours = ours.min(time(|| ending = Some(calls::fit(case, &mut buffers))));
+        ours = ours.min(time(|| ending = Some(calls::fit(case, zeros.lent()))));
         let (weights, took) = steps::fit(case, &mut inputs);
         stepwise = stepwise.min(took.as_secs_f64());
         let mut other = None;
