@@ -47,12 +47,9 @@ loop-less c = search needs
 
 loop-again : tie.Need-loop-again Inv-loop μ-loop
 loop-again c =
-    let entry = c .before .before .before .before .before in (
-      search needs,
-      search needs,
-      rw (c .before .before .loop .inv .2)
-          (put-more _ (now (entry .args .buf)) (entry .args .to) (c .before .before .loop .i) nan (search needs) _ (c .f64-at .ensures)),
-    )
+    let turn = c .before .before in
+    let lent = turn .before .before .before .args in
+    (search needs, search needs, rw (turn .loop .inv .2) (put-more _ (now (lent .buf)) (lent .to) (turn .loop .i) nan (search needs) _ (c .f64-at .ensures)))
 
 same-length : tie.Need-same-length Inv-loop μ-loop
 same-length c = search needs
