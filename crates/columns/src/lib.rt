@@ -22,6 +22,14 @@ pub fn sample_of(rows: &[u32], e: usize) -> Sample
     Sample(rows[e] as usize)
 }
 
+// The feature of an entry of a working set.
+pub fn feature_of(ws: &[u32], k: usize) -> Feature
+    requires { ⌜ k < length (now ws) ⌝ }
+    ensures { λ r. ⌜ r .0 ≡ getD (now (ws .entry)) k 0 ⌝ }
+{
+    Feature(ws[k] as usize)
+}
+
 // What v, which has a place for each sample, holds for one.
 pub fn reading(v: &[f64], sample: Sample) -> f64
     requires { ⌜ sample .0 < length (now v) ⌝ }
@@ -29,23 +37,6 @@ pub fn reading(v: &[f64], sample: Sample) -> f64
 {
     let i = sample.0;
     v[i]
-}
-
-// It becomes x for one.
-pub fn set_reading(v: &mut [f64], sample: Sample, x: f64)
-    requires { ⌜ sample .0 < length (now v) ⌝ }
-    ensures { λ _. ⌜ now (v .exit) ≡ set (now (v .entry)) (sample .0) x ⌝ }
-{
-    let i = sample.0;
-    v[i] = x;
-}
-
-// The feature of an entry of a working set.
-pub fn feature_of(ws: &[u32], k: usize) -> Feature
-    requires { ⌜ k < length (now ws) ⌝ }
-    ensures { λ r. ⌜ r .0 ≡ getD (now (ws .entry)) k 0 ⌝ }
-{
-    Feature(ws[k] as usize)
 }
 
 // The weight of a feature.
@@ -57,15 +48,6 @@ pub fn weight(w: &[f64], feature: Feature) -> f64
     w[j]
 }
 
-// It becomes x.
-pub fn set_weight(w: &mut [f64], feature: Feature, x: f64)
-    requires { ⌜ feature .0 < length (now w) ⌝ }
-    ensures { λ _. ⌜ now (w .exit) ≡ set (now (w .entry)) (feature .0) x ⌝ }
-{
-    let j = feature.0;
-    w[j] = x;
-}
-
 // The Lipschitz constant of a feature: the prepared numbers begin with these.
 pub fn constant(prepared: &[f64], feature: Feature) -> f64
     requires { ⌜ feature .0 < length (now prepared) ⌝ }
@@ -73,6 +55,24 @@ pub fn constant(prepared: &[f64], feature: Feature) -> f64
 {
     let j = feature.0;
     prepared[j]
+}
+
+// What v holds for a sample becomes x.
+pub fn set_reading(v: &mut [f64], sample: Sample, x: f64)
+    requires { ⌜ sample .0 < length (now v) ⌝ }
+    ensures { λ _. ⌜ now (v .exit) ≡ set (now (v .entry)) (sample .0) x ⌝ }
+{
+    let i = sample.0;
+    v[i] = x;
+}
+
+// The weight of a feature becomes x.
+pub fn set_weight(w: &mut [f64], feature: Feature, x: f64)
+    requires { ⌜ feature .0 < length (now w) ⌝ }
+    ensures { λ _. ⌜ now (w .exit) ≡ set (now (w .entry)) (feature .0) x ⌝ }
+{
+    let j = feature.0;
+    w[j] = x;
 }
 
 // Whether every place is finite.
