@@ -41,16 +41,12 @@ pub fn next(
     read_on(progress::count(p, compared), path, bytes, words)
 }
 
-// The list is over.
-pub fn end(p: Progress) {
-    progress::end(p.fd, p.counts);
-}
-
-// There is no more to read.
+// The list is over: there is no more to read.
 fn over(mut p: Progress) -> Progress
     requires { ⌜ ProgressWithin p ⌝ }
     ensures { λ r. ⌜ ProgressWithin r × (r .left ≡ 0) ⌝ }
 {
+    progress::end(p.fd, p.counts);
     p.left = 0;
     p
 }

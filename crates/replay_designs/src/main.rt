@@ -12,8 +12,6 @@ fn main() {
     let mut p = list::open(&path[..length], &mut bytes, &mut words);
     while p.left > 0 {
         let compared = record::replay(&words, p.found);
-        let next = list::next(p, compared, &path[..length], &mut bytes, &mut words);
-        p = next;
+        p = list::next(p, compared, &path[..length], &mut bytes, &mut words);
     }
-    list::end(p);
 }
