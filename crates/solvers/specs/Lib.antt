@@ -1,2 +1,2 @@
--- What a caller relies on stands in the crate `runs`.
+-- What a caller relies on stands in the crate `definition`.
 pub mod Inner

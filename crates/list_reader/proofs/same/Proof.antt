@@ -1,4 +1,4 @@
--- `vectors::same` tells two doubles apart. Numbers that are equal and not zero are both what one fraction is rounded to; a zero is written
+-- `list_reader::same` tells two doubles apart. Numbers that are equal and not zero are both what one fraction is rounded to; a zero is written
 -- in one way but for its sign, which is the sign of 1 / x. Assumes nothing.
 use mathlib.Core.Path.{_≡_, refl, sym, ap, _∙_, subst}
 use mathlib.Core.Bool.{Bool, true, false, Bool·beq, _||_, true≢false, false≢true}
