@@ -10,9 +10,9 @@
    pointer to a number points to one of its own. Numbers are taken whole: 2^32 + 5 iterations are refused, not 5 run. A lent buffer may be longer
    than its room; what lies beyond the room is unchanged.
 
-   Answers. Each call answers the refusal's number, 0 where there is none, and leaves its place in *place, 0 where there is none. Refusals are tested
-   in the order of their list, and of several faults of one kind the place is the first. A refusal leaves every other number that a pointer points to
-   as it was; none but 7 changes a buffer.
+   Answers. Each call but the last two, which answer a double and refuse nothing, answers the refusal's number, 0 where there is none, and leaves its
+   place in *place, 0 where there is none. Refusals are tested in the order of their list, and of several faults of one kind the place is the first. A
+   refusal leaves every other number that a pointer points to as it was; none but 7 changes a buffer.
 
    Limits of every design: n samples, 1 to 65,536; p features, 1 to 8,192; stored values, 16,777,216 at most. */
 #ifndef KOYRAMUTEY_H
@@ -129,6 +129,17 @@ uint32_t koyramutey_working_set(
     uint32_t *indices, size_t indices_len,
     size_t *size,
     size_t *place);
+
+/* The soft threshold of any two doubles: NaN where x or t is NaN; else x - t if x > t, x + t if x < -t, else +0.0. */
+double koyramutey_soft_threshold(double x, double t);
+
+/* The weight that a step from v leads to, the prox of a penalty; penalty, alpha and second as in the settings of a fit, but any doubles are answered.
+     0 L1         soft(v, alpha·step)
+     1 L1PlusL2   soft(v, (second·alpha)·step) / (1 + (step·(1 - second))·alpha)
+     2 MCP        with tau = alpha·step and g = second/step: +0.0 if |v| <= tau; v if |v| > g·tau; else (sign·(|v| - tau)) / (1 - 1/g)
+     any other    NaN
+   soft is the soft threshold above; each operation is rounded, in the order written. */
+double koyramutey_prox(uint32_t penalty, double alpha, double second, double v, double step);
 
 #ifdef __cplusplus
 }

@@ -5,3 +5,4 @@ pub mod Passed
 pub mod Gradients
 pub mod Numbers
 pub mod Moved
+pub mod Preparation

@@ -7,6 +7,7 @@ pub mod Order
 pub mod Less
 pub mod Below
 pub mod Zero
+pub mod Number
 pub mod Finite
 pub mod Exact
 pub mod Signs

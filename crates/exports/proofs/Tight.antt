@@ -12,6 +12,8 @@ use Rattle.exports.proofs.koyramutey_fit_dense.Reads as fit-dense-reads
 use Rattle.exports.proofs.koyramutey_fit_csc.Reads as fit-csc-reads
 use Rattle.exports.proofs.koyramutey_full_grad_dense.Reads as full-grad-reads
 use Rattle.exports.proofs.koyramutey_working_set.Reads as working-set-reads
+use Rattle.exports.proofs.koyramutey_soft_threshold.Reads as soft-threshold-reads
+use Rattle.exports.proofs.koyramutey_prox.Reads as prox-reads
 
 -- ---- the two fits
 -- the lent parameters that both end with: the buffers, then the report's numbers, then the place
@@ -46,3 +48,10 @@ working-set-tight : (κs : _) (a : _) (r r' : _) (s s' : _) → working-set-read
     let t' = s' .1 .1 .1 in
     (r ≡ r') × (now (t .1 .1 .0) ≡ now (t' .1 .1 .0)) × (now (t .1 .0) ≡ now (t' .1 .0)) × (now (t .0) ≡ now (t' .0))
 working-set-tight κs a r r' s s' p q = (coincide (p .0) (q .0), coincide (p .1) (q .1), coincide (p .2) (q .2), coincide (p .3) (q .3))
+
+-- ---- the leaves
+soft-threshold-tight : (a : _) (r r' : Float) (s : _) → soft-threshold-reads.Post tt a r s → soft-threshold-reads.Post tt a r' s → r ≡ r'
+soft-threshold-tight a r r' s p q = coincide p q
+
+prox-tight : (a : _) (r r' : Float) (s : _) → prox-reads.Post tt a r s → prox-reads.Post tt a r' s → r ≡ r'
+prox-tight a r r' s p q = coincide p q

@@ -1,8 +1,9 @@
-// Calls for programs in other languages: numbers, slices and references to numbers. A slice passes as a pointer and then a length. Each
-// answers document 01's refusal number, 0 where there is none; where a refusal has a place, it is left in `place`.
+// Calls for programs in other languages: numbers, slices and references to numbers. A slice passes as a pointer and then a length. The leaves
+// answer a double; each other call answers document 01's refusal number, 0 where there is none, and leaves the refusal's place in `place`.
 ghost use mathlib.Core.List.{[]};
 ghost use mathlib.Core.Path.{_≡_};
 ghost use Rattle.doubles.specs.Answer.{left};
+ghost use Rattle.penalties.specs.Soft.{soft};
 ghost use Rattle.designs.specs.Design.{denseShape, cscShape, nothing};
 ghost use Rattle.designs.specs.Given.{given};
 ghost use Rattle.datafits.specs.Calls as calls;
@@ -11,8 +12,10 @@ ghost use Rattle.definition.specs.WorkingSet as set;
 ghost use Rattle.worksets.specs.Call as sets;
 ghost use Rattle.plain_numbers.specs.Codes as codes;
 ghost use Rattle.plain_numbers.specs.Codes.{numberOfFault, placeOfFault};
+use penalties::prox_funcs::soft_thresholding;
 use plain_numbers::csc;
 use plain_numbers::dense;
+use plain_numbers::prox_of;
 use plain_numbers::settings_of;
 use plain_numbers::tell;
 use plain_numbers::tell_size;
@@ -193,4 +196,22 @@ pub extern "C" fn koyramutey_working_set(
 {
     let answer = construct_ws_from_kkt(violations, w, start, indices);
     tell_size(answer, size, place)
+}
+
+// ---- the leaves
+
+// penalties::prox_funcs::soft_thresholding.
+#[no_mangle]
+pub extern "C" fn koyramutey_soft_threshold(x: f64, t: f64) -> f64
+    ensures { λ r. ⌜ r ≡ soft x t ⌝ }
+{
+    soft_thresholding(x, t)
+}
+
+// penalties::separable::prox. A code that is no penalty's is answered with NaN.
+#[no_mangle]
+pub extern "C" fn koyramutey_prox(penalty: u32, alpha: f64, second: f64, v: f64, step: f64) -> f64
+    ensures { λ r. ⌜ r ≡ codes.codedProx penalty alpha second v step ⌝ }
+{
+    prox_of(penalty, alpha, second, v, step)
 }

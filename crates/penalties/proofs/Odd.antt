@@ -6,18 +6,19 @@ use mathlib.Core.Bool.{Bool, true, false, true≢false, false≢true}
 use mathlib.Core.List.{List}
 use lib.Dec.{T, ltb, leb·suc-zero}
 use lib.ListN.{length}
-use lib.Ieee.{Float, nan, inf, fin, binary64, up, down, ofBits, neg, add, sub, lt, le, mul, div, round, sum as fsum, size as fsize, units, odd as parity}
-use Rattle.doubles.specs.Num.{_⊖_, _⊗_, _⊘_, #0, #1, at, abs, signum, finite}
+use lib.Ieee.{Float, nan, inf, fin, binary64, up, down, ofBits, neg, add, sub, lt, le, mul, div, round, sum as fsum, size as fsize, units, odd as parity, isNan}
+use Rattle.doubles.specs.Num.{_⊖_, _⊗_, _⊘_, #0, #1, at, abs, signum, finite, _or_}
 use Rattle.doubles.specs.Steps.{sum}
 use Rattle.doubles.specs.Sign.{plain, flip, Turned, Signs, nonzero}
 use Rattle.doubles.proofs.Laws.Turn.{zero₂}
 use Rattle.doubles.proofs.Laws.Turned.{turned-refl, turned-neg, turned-add, turned-sub, turned-over, turn-l, turn-r}
-use Rattle.doubles.proofs.Laws.Compare.{lt-same, lt-turned, eq-turned, abs-turned}
+use Rattle.doubles.proofs.Laws.Compare.{lt-same, lt-turned, eq-turned, abs-turned, nan-turned}
 use Rattle.doubles.proofs.Laws.Choice.{and-both, same-else, turned-else, turned-pick, turned-crossed}
 use Rattle.doubles.proofs.Laws.Order.{neg-lt, nonzero-of, at-least-zero, not-below, zero-at-most}
-use Rattle.doubles.proofs.Laws.Below.{mul-not-below, product-number}
+use Rattle.doubles.proofs.Laws.Below.{mul-not-below}
+use Rattle.doubles.proofs.Laws.Number.{product-number}
 use Rattle.doubles.proofs.Laws.Signs.{zero-turned, turned-scaled, turned-times, signum-turned, sum-same, signs-at, signs-length}
-use Rattle.penalties.specs.Soft.{soft}
+use Rattle.penalties.specs.Soft.{soft01, soft}
 use Rattle.doubles.specs.Answer.{none}
 use Rattle.doubles.proofs.Laws.Verdict.{spared}
 use Rattle.penalties.specs.Penalty.{alphaLegal, ratioLegal, alphaOf, secondLegal, penaltyFault, sumAbs, sumSquares, mcpOf, sumMcp, value}
@@ -29,6 +30,10 @@ use Rattle.penalties.specs.declared.separable.Penalty.the-variants.{L1, 
 -- ---- the soft threshold
 none-below : (a : ℕ) → T (ltb a 0) → ⊥
 none-below a h = rw leb·suc-zero at h
+
+nan-turns : (s : Bool) → Turned s nan nan
+nan-turns true = record { is = unfold plain flip neg in refl }
+nan-turns false = turned-refl
 
 -- at a threshold that is not below zero, x is not above t and below -t
 apart : (t x : Float) → lt t #0 ≡ false → T (lt t x) → T (lt x (neg t)) → ⊥
@@ -47,24 +52,27 @@ apart (fin true zero d) (fin false m c) e h k = none-below (m * up c * down d) (
 apart (fin false n d) (fin true m c) e h k = h
 apart (fin false n d) (fin false m c) e h k = k
 
-pub soft-turned : {s : Bool} {x x' : Float} (t : Float) → lt t #0 ≡ false → Turned s x x' → Turned s (soft x t) (soft x' t)
-soft-turned {s} {x} {x'} t n p = go s p
-  where
-    t= : Turned false t t
-    t= = turned-refl
+module _ (t : Float) (n : lt t #0 ≡ false) where
+  turned-01 : (s : Bool) {x x' : Float} → Turned s x x' → Turned s (soft01 x t) (soft01 x' t)
+  unfolding soft01
+  turned-01 false p =
+      let t= : Turned false t t = turned-refl in
+      let below = turned-pick (lt-same p (turned-neg t=)) (turned-add binary64 p t=) turned-refl in
+      turned-pick (lt-same t= p) (turned-sub binary64 p t=) below
+  turned-01 true {x} p =
+      let t= : Turned false t t = turned-refl in
+      let less = turned-add binary64 p (turn-l t=) in
+      let more = turned-add binary64 p (turn-r t=) in
+      unfold sub in turned-crossed (apart t x n) (lt-turned p (turn-l t=)) (lt-turned (turn-r t=) p) less more (zero-turned true)
 
-    go : (s : Bool) → Turned s x x' → Turned s (soft x t) (soft x' t)
-    go false p = unfold soft in
-        let below = turned-pick (lt-same p (turned-neg t=)) (turned-add binary64 p t=) turned-refl in
-        turned-pick (lt-same t= p) (turned-sub binary64 p t=) below
-    go true p = unfold soft sub in
-        let less = turned-add binary64 p (turn-l t=) in
-        let more = turned-add binary64 p (turn-r t=) in
-        turned-crossed (apart t x n) (lt-turned p (turn-l t=)) (lt-turned (turn-r t=) p) less more (zero-turned true)
+  -- a NaN turned is the NaN
+  pub soft-turned : {s : Bool} {x x' : Float} → Turned s x x' → Turned s (soft x t) (soft x' t)
+  unfolding soft
+  soft-turned {s} p = turned-pick (ap (λ (b : Bool). b or isNan t) (nan-turned p)) (nan-turns s) (turned-01 s p)
 
 -- a threshold below zero does not lie between x and -x: at -1, both 0 and -0 become 1
 pub soft-below-zero : Turned true #0 (neg #0) × (Turned true (soft #0 (neg #1)) (soft (neg #0) (neg #1)) → ⊥)
-unfolding soft plain flip neg add sub lt ofBits round fsum fsize units parity
+unfolding soft soft01 _or_ isNan plain flip neg add sub lt ofBits round fsum fsize units parity
 soft-below-zero = (record { is = refl }, λ p. true≢false (ap (λ (x : Float). lt x #0) (p .is)))
 
 -- ---- what the ranges say
@@ -190,7 +198,7 @@ second-legal : (p : Penalty) → penaltyFault p ≡ none → secondLegal p ≡ t
 unfolding penaltyFault
 second-legal p h = spared (secondLegal p) 2 none (spared (alphaLegal (alphaOf p)) 2 _ h .1) .0
 
-ratio-legal : (alpha r : Float) → penaltyFault (L1PlusL2 alpha r) ≡ none → ratioLegal r ≡ true
+pub ratio-legal : (alpha r : Float) → penaltyFault (L1PlusL2 alpha r) ≡ none → ratioLegal r ≡ true
 unfolding secondLegal
 ratio-legal alpha r h = second-legal (L1PlusL2 alpha r) h
 

@@ -2,3 +2,4 @@
 pub mod Soft
 pub mod Penalty
 pub mod Odd
+pub mod Prox01

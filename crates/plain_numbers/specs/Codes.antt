@@ -5,6 +5,7 @@ use lib.Dec.{eqb}
 use lib.Ieee.{Float, nan}
 use Rattle.doubles.specs.Num.{pick}
 use Rattle.doubles.specs.Answer.{Outcome, refused, answered, Fault}
+use Rattle.penalties.specs.Penalty.{prox}
 use Rattle.penalties.specs.declared.separable.Penalty.{Penalty}
 use Rattle.penalties.specs.declared.separable.Penalty.the-variants.{L1, L1PlusL2, MCP}
 use Rattle.designs.specs.Given.{Given}
@@ -29,6 +30,10 @@ noPenalty = L1 nan
 unfoldable pub codedPenalty : ℕ → Float → Float → Penalty
 codedPenalty code alpha second =
     pick (eqb code 0) (L1 alpha) (pick (eqb code 1) (L1PlusL2 alpha second) (pick (eqb code 2) (MCP alpha second) noPenalty))
+
+-- the prox of the penalty with this code; any other code's is NaN (proofs/Laws/Codes: no-prox)
+unfoldable pub codedProx : ℕ → Float → Float → Float → Float → Float
+codedProx code alpha second v step = prox (codedPenalty code alpha second) v step
 
 -- extrapolation is off at 0, and on at any other number
 unfoldable pub codedSettings : ℕ → Float → Float → Float → ℕ → ℕ → ℕ → ℕ → ℕ → Settings

@@ -12,6 +12,7 @@ use designs::Layout;
 use designs::Shape;
 use doubles::Verdict;
 use penalties::separable::Penalty;
+use penalties::separable::prox;
 use worksets::WorkingSet;
 
 // The shape of a dense design, and below that of a CSC one.
@@ -55,6 +56,13 @@ pub fn penalty_of(code: u32, alpha: f64, second: f64) -> Penalty
         };
     }
     Penalty::L1 { alpha: 0.0 / 0.0 }
+}
+
+// A code that is no penalty's is answered with NaN.
+pub fn prox_of(code: u32, alpha: f64, second: f64, v: f64, step: f64) -> f64
+    ensures { λ r. ⌜ r ≡ codes.codedProx code alpha second v step ⌝ }
+{
+    prox(penalty_of(code, alpha, second), v, step)
 }
 
 pub fn settings_of(

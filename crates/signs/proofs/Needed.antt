@@ -8,7 +8,7 @@ use lib.Ieee.{Float, neg, add, sub, mul, div, lt, eq, le, ofInt, ofBits, isNan, 
 use Rattle.doubles.specs.Num.{#0, #1, #2, _and_, _or_, abs, signum, finite, larger}
 use Rattle.doubles.specs.Buffer.{put}
 use Rattle.doubles.specs.Steps.{steps, upward, downward}
-use Rattle.penalties.specs.Soft.{soft}
+use Rattle.penalties.specs.Soft.{soft01, soft}
 use Rattle.penalties.specs.Penalty.{sumAbs, value, proxL1, prox, excess, violationL1, violation}
 use Rattle.elimination.specs.Elimination.{reduced, cleared, clearedBelow, echelon, clearedAbove, backSubstituted, regular, readOff, eliminated}
 use Rattle.penalties.specs.declared.separable.Penalty.the-variants.{L1}
@@ -39,7 +39,7 @@ takes x z =
 pub off-is-needed : (takes #1 #2 ≡ 0 ∷ []) × (takes (neg #1) (neg #2) ≡ 1 ∷ [])
 unfolding
     neg add sub mul div lt eq le ofInt ofBits isNan round fsum fsize units odd _and_ _or_ abs signum finite larger put steps upward downward
-    soft sumAbs value proxL1 prox excess violationL1 violation reduced cleared clearedBelow echelon clearedAbove backSubstituted regular readOff
+    soft01 soft sumAbs value proxL1 prox excess violationL1 violation reduced cleared clearedBelow echelon clearedAbove backSubstituted regular readOff
     eliminated dense laid dot squares lipschitz dots prepared gradientFrom gradient squaredError datafit moved movedAll
     extrapolated support size insert others workingSet gradientOf violationOf known allKnown violations worst knownIn worstIn newWeight movedBy
     finiteAt movedFinite fine visited visit visits keptNow entry systemRow system coefficients combined candidate objectiveOf allFinite better

@@ -5,7 +5,7 @@ use lib.Ieee.{neg, add, sub, mul, div, lt, eq, le, ofInt, ofBits, toBits, isNan,
 use Rattle.doubles.specs.Num.{_and_, _or_, abs, signum, finite, larger}
 use Rattle.doubles.specs.Steps.{steps, upward, downward}
 use Rattle.doubles.specs.Buffer.{put}
-use Rattle.penalties.specs.Soft.{soft}
+use Rattle.penalties.specs.Soft.{soft01, soft}
 use Rattle.penalties.specs.Penalty.{alphaLegal, secondLegal, penaltyFault, proxL1, proxL1PlusL2, proxMcp, prox, excess, violationL1, violation}
 use Rattle.elimination.specs.Elimination.{reduced, cleared, clearedBelow, echelon, clearedAbove, backSubstituted}
 use Rattle.elimination.specs.Elimination.{regular, readOff, eliminated, solution, solveCall}
@@ -25,7 +25,7 @@ pub right-table : right table ≡ true
 unfolding
     neg add sub mul div lt eq le ofInt ofBits toBits isNan round fsum fsize units odd
     _and_ _or_ abs signum finite larger steps upward downward put
-    soft alphaLegal secondLegal penaltyFault proxL1 proxL1PlusL2 proxMcp prox excess violationL1 violation
+    soft01 soft alphaLegal secondLegal penaltyFault proxL1 proxL1PlusL2 proxMcp prox excess violationL1 violation
     reduced cleared clearedBelow echelon clearedAbove backSubstituted regular readOff eliminated solution solveCall
     dense laid dot squares lipschitz dots prepared gradientFrom gradient squaredError datafit moved finiteAt
     lengths sizes notFinite numbers contents sizedFault valueFault valueCall

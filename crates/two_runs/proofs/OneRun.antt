@@ -4,22 +4,24 @@ use mathlib.Core.Path.{_≡_, refl, sym, ap, _∙_}
 use mathlib.Core.Bool.{true, false}
 use mathlib.Core.List.{List}
 use Prim.Native.Nat.{ℕ, suc, _+_, _<_}
+use native.Mathlib.Nat.{le-of-lt}
 use native.Mathlib.Omega.{arith}
-use lib.ListN.{length}
+use lib.ListN.{length, getD}
 use lib.Seq.{ext-getD}
 use lib.Ieee.{Float, nan, eq}
 use Rattle.doubles.specs.Num.{#0}
 use Rattle.doubles.specs.Steps.{Stage, going, stopped, bad, upto}
 use Rattle.doubles.proofs.Laws.Signs.{sum-same}
-use Rattle.definition.specs.Epoch.{Task, Point, constant, fine, visited}
+use Rattle.definition.specs.Epoch.{Task, Point, constant, fine, visited, visit}
 use Rattle.definition.specs.Extrapolation.{U, entry, better, pointOf}
-use Rattle.definition.specs.Run.{State, turn, start, run}
+use Rattle.definition.specs.Run.{Inner, epoch, State, chosenSet, turn, start, run}
 use Rattle.definition.specs.Call.{done, zeros, solved}
 use Rattle.definition.specs.declared.Settings.{Settings}
 use Rattle.definition.proofs.Laws.Ends.{solved-done}
-use Rattle.two_runs.specs.Stages.{both-going, both-stopped, both-bad, Both}
-use Rattle.two_runs.specs.Alike.{Pair, Weights, Rows, Respects, Alike}
-use Rattle.two_runs.proofs.TwoRuns.{two-turns}
+use Rattle.two_runs.specs.Stages.{Stages, both-going, both-stopped, both-bad, Both}
+use Rattle.two_runs.specs.Alike.{Pair, Weights, FeatureSet, Rows, Respects, Alike}
+use Rattle.two_runs.proofs.Laws.Points.{chosen-fits, visits-so-far}
+use Rattle.two_runs.proofs.TwoRuns.{States, epochs-so-far, turns-so-far, two-turns}
 
 -- P is kept from the zeros on: by a visit of a column whose constant is not 0 and whose numbers are finite, and by a candidate that is better
 pub record Keeps (T : Task) (y : List Float) (S : Settings) (P : Point → Type 0) : Type 0 where
@@ -32,6 +34,9 @@ abbrev Holds : (Point → Type 0) → Stage State → Type 0
 Holds P (going s) = P (s .inner .point)
 Holds P (stopped s) = P (s .inner .point)
 Holds P bad = Unit {0}
+
+both-go : {A : Type 0} {G E : A → A → Type 0} {a b : A} → Stages G E (going a) (going b) → G a b
+both-go (both-going r) = r
 
 module _ (T : Task) (y : List Float) (S : Settings) (P : Point → Type 0) (K : Keeps T y S P) where
   abbrev itself : Pair
@@ -86,6 +91,26 @@ module _ (T : Task) (y : List Float) (S : Settings) (P : Point → Type 0) (K : 
   -- at the beginning of every turn
   pub reached-keeps : (t : ℕ) (s : State) → upto (turn T y S) t (start T S) ≡ going s → P (s .inner .point)
   reached-keeps t s e = rw e at (held (two-turns itself respects t))
+
+  -- at every visit, which is of a feature: the turn at s, its epoch at i, and the visit at q
+  module _ (t : ℕ) (s : State) (turned : upto (turn T y S) t (start T S) ≡ going s) where
+    abbrev ws : List ℕ
+    ws = chosenSet T S (s .inner .point)
+
+    states : States itself s s
+    states = both-go (rw turned at (turns-so-far itself respects t))
+
+    features : FeatureSet (T .p) ws
+    features = chosen-fits itself respects (states .inner .points)
+
+    pub visit-feature : (place : ℕ) → place < length ws → getD ws place 0 < T .p
+    visit-feature place l = features .each place l
+
+    pub visit-keeps : (v : Float) (e : ℕ) (i : Inner) → upto (epoch T y S ws v) e (s .inner) ≡ going i
+        → (place : ℕ) → place < length ws → (q : Point) → upto (λ k. visit T (getD ws k 0)) place (i .point) ≡ going q → P q
+    visit-keeps v e i passed place l q visited =
+        let under = both-go (rw passed at (epochs-so-far itself respects features v (states .inner) e)) in
+        both-go (rw visited at (visits-so-far itself respects features (under .inners .points) place (le-of-lt l))) .other .1
 
   -- where a solve is done
   pub solved-keeps : (s : State) → solved T y S ≡ done s → P (s .inner .point)

@@ -25,20 +25,20 @@ use Rattle.two_runs.proofs.Laws.Points.{weights-zero, all-known, worst-
 use Rattle.two_runs.proofs.Laws.Rows.{room-now, row-next, rows-now, tried-related}
 
 -- ---- two states, between the epochs and within them
-record Inners (P : Pair) (s s' : Inner) : Type 0 where
-  points : Points P (s .point) (s' .point)
+pub record Inners (P : Pair) (s s' : Inner) : Type 0 where
+  pub points : Points P (s .point) (s' .point)
   same : bare s ≡ bare s'
   -- where extrapolation is on, there is room for all rows
   room : P .settings .extrapolate ≡ true → length (s .kept) ≡ suc (P .settings .depth) * P .p
   room' : P .settings .extrapolate ≡ true → length (s' .kept) ≡ suc (P .settings .depth) * P .p
 
 -- at the beginning of epoch e of a working set: the rows before e's own were kept under it
-record Under (P : Pair) (ws : List ℕ) (e : ℕ) (s s' : Inner) : Type 0 where
-  inners : Inners P s s'
+pub record Under (P : Pair) (ws : List ℕ) (e : ℕ) (s s' : Inner) : Type 0 where
+  pub inners : Inners P s s'
   rows : P .settings .extrapolate ≡ true → Rows P ws (e % suc (P .settings .depth)) (s .kept) (s' .kept)
 
-record States (P : Pair) (s s' : State) : Type 0 where
-  inner : Inners P (s .inner) (s' .inner)
+pub record States (P : Pair) (s s' : State) : Type 0 where
+  pub inner : Inners P (s .inner) (s' .inner)
   same : rest s ≡ rest s'
 
 -- the states that an iteration and the last turn make, by name
@@ -110,11 +110,14 @@ module _ (P : Pair) (H : Respects P) where
         rows = λ on. record { each = λ r l. absurd (not-suc-le-zero (rw (zero-mod (suc (S .depth))) at l)) };
       }
 
+      -- the first n epochs, and all of them
+      pub epochs-so-far : {s s' : Inner} → Inners P s s' → (n : ℕ)
+          → Stages (Under P ws n) (Inners P) (upto (epoch T (P .y) S ws outer) n s) (upto (epoch T' (P .y') S ws outer) n s')
+      epochs-so-far u n = upto-related (Under P ws) (Inners P) _ _ n _ _ (begins u) (λ e l. epoch-related e)
+
       epochs-related : {s s' : Inner} → Inners P s s' → Both (Inners P) (epochs T (P .y) S ws outer s) (epochs T' (P .y') S ws outer s')
       unfolding epochs
-      epochs-related u =
-          stages-map (λ a b v. v .inners) (λ a b v. v)
-          (upto-related (Under P ws) (Inners P) _ _ (S .epochs) _ _ (begins u) (λ e l. epoch-related e))
+      epochs-related u = stages-map (λ a b v. v .inners) (λ a b v. v) (epochs-so-far u (S .epochs))
 
   -- ---- the outer loop
   iteration-related : (v : Float) {s s' : State} → States P s s' → Both (States P) (iteration T (P .y) S v s) (iteration T' (P .y') S v s')
@@ -151,10 +154,11 @@ module _ (P : Pair) (H : Respects P) where
   }
 
   -- the first t turns
+  pub turns-so-far : (t : ℕ) → Both (States P) (upto (turn T (P .y) S) t (start T S)) (upto (turn T' (P .y') S) t (start T' S))
+  turns-so-far t = upto-related (λ (k : ℕ). States P) (States P) _ _ t _ _ start-related (λ k l. turn-related k)
+
   pub two-turns : (t : ℕ) → Both (Alike P) (upto (turn T (P .y) S) t (start T S)) (upto (turn T' (P .y') S) t (start T' S))
-  two-turns t =
-      stages-map alike alike
-      (upto-related (λ (k : ℕ). States P) (States P) _ _ t _ _ start-related (λ k l. turn-related k))
+  two-turns t = stages-map alike alike (turns-so-far t)
     where
       alike : (s s' : State) → States P s s' → Alike P s s'
       alike s s' u = record { points = u .inner .points; same = u .same }

@@ -4,11 +4,11 @@
 use mathlib.Core.Path.{_≡_, refl, sym, _∙_}
 use Prim.Native.Nat.{ℕ, zero, suc, _+_, _*_, _/_, _%_, _^_, _-_, _<_, compare}
 use native.Mathlib.Nat.{le-refl, le-suc, le-trans}
-use mathlib.Core.Bool.{Bool, true, false, not, cond, true≢false, false≢true}
+use mathlib.Core.Bool.{Bool, true, false, not, cond, true≢false}
 use lib.Dec.{T, ltb, eqb}
-use lib.Ieee.{Float, nan, inf, fin, Format, binary64, prec, emax, low, up, down, size, nearest, unlike, odd, units, round, add, mul, div, lt, eq, isNan, ofBits}
+use lib.Ieee.{Float, nan, inf, fin, Format, binary64, prec, emax, low, up, down, size, nearest, unlike, odd, units, round, add, mul, div, lt, eq, ofBits}
 use lib.Ieee.Fits.{round-is}
-use Rattle.doubles.specs.Num.{_⊕_, _⊗_, _⊘_, #0, finite}
+use Rattle.doubles.specs.Num.{_⊕_, _⊗_, _⊘_, #0, #1}
 use Rattle.doubles.specs.Steps.{steps, sum as sumOf}
 use Rattle.doubles.specs.Sign.{plain}
 use Rattle.doubles.proofs.Laws.Turn.{zero₂, add-plain, mul-plain, div-plain}
@@ -37,25 +37,6 @@ round-clear f a c =
     pick false q k = tt
 
     go : (q k : ℕ) → T (clear (units f false q k))
-    go q k = unfold units in pick (ltb (q * 2 ^ k) (2 ^ (low f + suc (emax f)))) q k
-
-round-number : (f : Format) (s : Bool) (a c : ℕ) → isNan (round f s a c) ≡ false
-unfolding isNan
-round-number f s a c =
-    let n = a * 2 ^ low f in
-    let k = size (n / c) - prec f in
-    let u = c * 2 ^ k in
-    rw round-is (go (nearest (n / u) (compare (n % u * 2) u)) k)
-  where
-    at : (q k : ℕ) → isNan (odd (suc (prec f)) s q k (low f)) ≡ false
-    at zero k = unfold odd in refl
-    at (suc q) k = unfold odd in refl
-
-    pick : (b : Bool) (q k : ℕ) → isNan (cond b (odd (suc (prec f)) s q k (low f)) (inf s)) ≡ false
-    pick true q k = at q k
-    pick false q k = refl
-
-    go : (q k : ℕ) → isNan (units f s q k) ≡ false
     go q k = unfold units in pick (ltb (q * 2 ^ k) (2 ^ (low f + suc (emax f)))) q k
 
 either : (b : Bool) (x y : Float) → T (clear x) → T (clear y) → T (clear (cond b x y))
@@ -149,6 +130,10 @@ steady (fin true (suc m) e) p = absurd p
 steady (fin false m e) p = pos-lt m e
 
 -- ---- the laws
+pub one-not-below : lt #1 #0 ≡ false
+unfolding lt ofBits
+one-not-below = refl
+
 pub add-not-below : (x y : Float) → lt x #0 ≡ false → lt y #0 ≡ false → lt (x ⊕ y) #0 ≡ false
 add-not-below x y p q =
     steady (x ⊕ y) (rw (add-plain binary64 x y) (plain-clear (plain x ⊕ plain y) (add-clear binary64 (plain x) (plain y) (calm x p) (calm y q))))
@@ -170,12 +155,3 @@ pub sum-not-below : (t : ℕ → Float) (n : ℕ) → ((i : ℕ) → i < n → l
 unfolding steps
 sum-not-below t zero h = unfold lt ofBits in refl
 sum-not-below t (suc n) h = add-not-below (sumOf t n) (t n) (sum-not-below t n (λ i l. h i (le-trans l (le-suc n)))) (h n (le-refl (suc n)))
-
--- a product of finite numbers is a number, if perhaps an infinity
-pub product-number : (x y : Float) → finite x ≡ true → finite y ≡ true → isNan (x ⊗ y) ≡ false
-unfolding finite
-product-number nan y p q = absurd (false≢true p)
-product-number (inf s) y p q = absurd (false≢true p)
-product-number (fin s m e) nan p q = absurd (false≢true q)
-product-number (fin s m e) (inf t) p q = absurd (false≢true q)
-product-number (fin s m e) (fin t n d) p q = unfold mul in round-number binary64 (unlike s t) (m * up e * (n * up d)) (down e * down d)

@@ -4,7 +4,7 @@ use Prim.Native.Nat.{ℕ, zero, suc, _*_}
 use native.Mathlib.Nat.{zero-add, add-zero, add-comm}
 use mathlib.Core.Bool.{Bool, true, false, not, _&&_, _||_, Bool·beq}
 use lib.Dec.{eqb, leb·suc-zero}
-use lib.Ieee.{Float, nan, inf, fin, up, down, below, level, neg, lt, eq}
+use lib.Ieee.{Float, nan, inf, fin, up, down, below, level, neg, lt, eq, isNan}
 use Rattle.doubles.specs.Num.{abs, finite}
 use Rattle.doubles.specs.Sign.{plain, flip, Turned}
 use Rattle.doubles.proofs.Laws.Turn.{zero₂}
@@ -117,7 +117,7 @@ eq-plain (fin s zero e) (fin t (suc n) d) = let p = zero₂ (up e) (down d) in l
 eq-plain (fin s (suc m) e) (fin t zero d) = let q = zero₂ (up d) (down e) in level-r s _ t _ q ∙ sym (level-r s _ false _ q)
 eq-plain (fin s (suc m) e) (fin t (suc n) d) = refl
 
--- ---- the absolute value, and being finite
+-- ---- the absolute value, being finite, being no number
 abs-plain : (x : Float) → abs x ≡ abs (plain x)
 unfolding abs plain
 abs-plain nan = refl
@@ -146,12 +146,29 @@ finite-flip true nan = refl
 finite-flip true (inf s) = refl
 finite-flip true (fin s m e) = refl
 
+nan-plain : (x : Float) → isNan x ≡ isNan (plain x)
+unfolding plain isNan
+nan-plain nan = refl
+nan-plain (inf s) = refl
+nan-plain (fin s zero e) = refl
+nan-plain (fin s (suc m) e) = refl
+
+nan-flip : (s : Bool) (x : Float) → isNan (flip s x) ≡ isNan x
+unfolding flip neg isNan
+nan-flip false x = refl
+nan-flip true nan = refl
+nan-flip true (inf s) = refl
+nan-flip true (fin s m e) = refl
+
 -- ---- as laws of `Turned`
 pub abs-turned : {s : Bool} {x y : Float} → Turned s x y → abs x ≡ abs y
 abs-turned {s} {x} {y} p = cc (abs-flip s x, abs-plain (flip s x), abs-plain y)
 
 pub finite-turned : {s : Bool} {x y : Float} → Turned s x y → finite x ≡ finite y
 finite-turned {s} {x} {y} p = cc (finite-flip s x, finite-plain (flip s x), finite-plain y)
+
+pub nan-turned : {s : Bool} {x y : Float} → Turned s x y → isNan x ≡ isNan y
+nan-turned {s} {x} {y} p = cc (nan-flip s x, nan-plain (flip s x), nan-plain y)
 
 pub lt-same : {x x' y y' : Float} → Turned false x x' → Turned false y y' → lt x y ≡ lt x' y'
 unfolding flip

@@ -30,6 +30,11 @@ unfolding _or_
 or-fails true b e = absurd (true≢false e)
 or-fails false b e = (refl, e)
 
+pub or-else : (a b : Bool) → a or b ≡ true → a ≡ false → b ≡ true
+unfolding _or_
+or-else true b h e = absurd (true≢false e)
+or-else false b h e = h
+
 pub neither-holds : (a b : Bool) → a ≡ false → b ≡ false → (a or b) ≡ false
 unfolding _or_
 neither-holds a b h k = rw (h, k)

@@ -71,6 +71,12 @@ ne-self (fin s m e) = rw (is-true (eqb (m * up e * down e) (m * up e * down e)) 
     same true = refl
     same false = refl
 
+pub only-nan : (x : Float) → isNan x ≡ true → x ≡ nan
+unfolding isNan
+only-nan nan h = refl
+only-nan (inf s) h = absurd (false≢true h)
+only-nan (fin s m e) h = absurd (false≢true h)
+
 -- a double that is not below zero, and no nan, is at least zero
 pub at-least-zero : (x : Float) → lt x #0 ≡ false → isNan x ≡ false → le #0 x ≡ true
 unfolding isNan

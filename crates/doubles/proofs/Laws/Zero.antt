@@ -50,22 +50,40 @@ unfolding round
 least binary32 = tt
 least binary64 = tt
 
-above-neg : (x : Float) → T (above x) → negzero (neg x) ≡ false
-unfolding negzero neg
-above-neg nan h = refl
-above-neg (inf s) h = refl
-above-neg (fin true m e) h = absurd h
-above-neg (fin false zero e) h = absurd h
-above-neg (fin false (suc m) e) h = refl
+above-nonzero : (x : Float) → T (above x) → T (nonzero x) × T (nonzero (neg x))
+unfolding nonzero neg
+above-nonzero nan h = absurd h
+above-nonzero (inf s) h = (tt, tt)
+above-nonzero (fin true m e) h = absurd h
+above-nonzero (fin false zero e) h = absurd h
+above-nonzero (fin false (suc m) e) h = (tt, tt)
+
+-- a fraction that is not below the format's smallest value is not rounded to a zero
+pub round-nonzero : (f : Format) (s : Bool) (a c : ℕ) → 0 < c → c ≤ a * 2 ^ low f → T (nonzero (round f s a c))
+round-nonzero f s a c C h = go s
+  where
+    l : ℕ
+    l = 2 ^ low f
+
+    both : T (nonzero (round f false a c)) × T (nonzero (neg (round f false a c)))
+    both =
+        above-nonzero (round f false a c)
+        (above-of-le (round f false 1 l) (round f false a c) (least f)
+        (round-mono f 1 l a c (pow-pos (low f)) C (le-trans (le-of-eq (one-mul c)) h)))
+
+    go : (s : Bool) → T (nonzero (round f s a c))
+    go false = both .0
+    go true = rw (round-neg f false a c) (both .1)
+
+no-zero : (x : Float) → T (nonzero x) → negzero x ≡ false
+unfolding nonzero negzero
+no-zero nan h = refl
+no-zero (inf s) h = refl
+no-zero (fin s zero e) h = absurd h
+no-zero (fin s (suc m) e) h = refl
 
 pub round-large : (f : Format) (s : Bool) (a c : ℕ) → 0 < c → c ≤ a * 2 ^ low f → negzero (round f s a c) ≡ false
-round-large f false a c C h = round-pos f a c
-round-large f true a c C h =
-    let l = 2 ^ low f in
-    rw (round-neg f false a c)
-    (above-neg (round f false a c)
-    (above-of-le (round f false 1 l) (round f false a c) (least f)
-    (round-mono f 1 l a c (pow-pos (low f)) C (le-trans (le-of-eq (one-mul c)) h))))
+round-large f s a c C h = no-zero (round f s a c) (round-nonzero f s a c C h)
 
 -- ---- two values that fit stand on one grid, no finer than the format's
 step : (A B g h L a b c : ℕ) → a ≡ A * g → b ≡ B * g → c ≡ g * h → h ≤ L → a < b → c ≤ (b - a) * L

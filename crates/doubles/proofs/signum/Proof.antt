@@ -4,7 +4,7 @@ use mathlib.Core.Bool.{Bool, true, false, true≢false, false≢true}
 use Prim.Native.Nat.{zero, suc}
 use lib.Ieee.{Float, nan, inf, fin, ofBits, neg, div, lt, isNan}
 use Rattle.doubles.specs.Num.{_⊘_, #0, #1, pick, signum}
-use Rattle.doubles.proofs.Laws.Order.{neg-lt, pos-lt, pos-gt, ne-self}
+use Rattle.doubles.proofs.Laws.Order.{neg-lt, pos-lt, pos-gt, ne-self, only-nan}
 use Rattle.doubles.proofs.signum.Statement.{statement}
 use Rattle.doubles.proofs.signum.Tie as tie
 
@@ -25,10 +25,8 @@ positive (fin true m e) h = absurd (false≢true (unfold lt ofBits in h))
 positive (fin false m e) h = refl
 
 none : (x : Float) → isNan x ≡ true → x ≡ signum x
-unfolding isNan signum
-none nan h = refl
-none (inf s) h = absurd (false≢true h)
-none (fin s m e) h = absurd (false≢true h)
+unfolding signum
+none x h = rw (only-nan x h)
 
 -- what is neither below nor above zero and no nan is a zero
 level : (x : Float) (b : Bool) → lt x #0 ≡ false → lt #0 x ≡ false → isNan x ≡ false → lt (#1 ⊘ x) #0 ≡ b → pick b (neg #1) #1 ≡ signum x

@@ -7,11 +7,12 @@ use Prim.Native.Nat.{ℕ, _<_}
 use native.Mathlib.Omega.{arith}
 use borrow.Author.Tests.{ne-eqb}
 use lib.Dec.{leb}
-use lib.Ieee.{Float}
+use lib.Ieee.{Float, nan}
 use Rattle.doubles.specs.Num.{_and_, finite}
 use Rattle.doubles.specs.Answer.{Outcome, refused, Fault, unless}
 use Rattle.doubles.specs.declared.Refusal.{Refusal}
 use Rattle.penalties.specs.Penalty.{alphaLegal, penaltyFault}
+use Rattle.penalties.proofs.Numbers.{prox-of-nan}
 use Rattle.designs.specs.Given.{given}
 use Rattle.designs.specs.declared.Shape.{Shape}
 use Rattle.definition.specs.Call.{Lent, fitCall, fitLeft, fitOf, settingsFault, startLegal, depthLegal}
@@ -19,7 +20,8 @@ use Rattle.definition.specs.declared.Fit.{Fit}
 use Rattle.definition.specs.declared.Fit.the-variants as Fit
 use Rattle.definition.specs.declared.Report.{Report}
 use Rattle.definition.specs.declared.Settings.{Settings}
-use Rattle.plain_numbers.specs.Codes.{numberOfFault, placeOfFault, numberOfFit, placeOfFit, reported, codedPenalty, codedSettings, reply, fitReply}
+use Rattle.plain_numbers.specs.Codes.{numberOfFault, placeOfFault, numberOfFit, placeOfFit, reported, codedPenalty, codedProx, codedSettings}
+use Rattle.plain_numbers.specs.Codes.{reply, fitReply}
 
 -- ---- the arms of a match on the answer
 pub refused-told : (d : Fit) (r : Refusal) (old : Report) → d ≡ Fit.Refused r
@@ -48,6 +50,12 @@ no-penalty : (code : ℕ) (alpha second : Float) → 2 < code → penaltyFault (
 unfolding codedPenalty penaltyFault alphaLegal finite _and_
 no-penalty code alpha second h =
     rw (ne-eqb code 0 (λ z. omega (arith, z)), ne-eqb code 1 (λ z. omega (arith, z)), ne-eqb code 2 (λ z. omega (arith, z)))
+
+-- and NaN as a prox: its threshold is one
+pub no-prox : (code : ℕ) (alpha second v step : Float) → 2 < code → codedProx code alpha second v step ≡ nan
+unfolding codedProx codedPenalty
+no-prox code alpha second v step h =
+    rw (ne-eqb code 0 (λ z. omega (arith, z)), ne-eqb code 1 (λ z. omega (arith, z)), ne-eqb code 2 (λ z. omega (arith, z))) (prox-of-nan v step)
 
 -- a test that gives 2, in front of what gives 2
 still : (b : Bool) {f : Fault} → f ≡ refused 2 0 → unless b 2 f ≡ refused 2 0

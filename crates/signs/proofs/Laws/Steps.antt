@@ -15,10 +15,12 @@ use Rattle.doubles.proofs.Laws.Choice.{and-both}
 use Rattle.doubles.proofs.Laws.Turned.{turned-sub, turned-over}
 use Rattle.doubles.proofs.Laws.Compare.{finite-turned, eq-turned}
 use Rattle.doubles.proofs.Laws.Signs.{zero-turned, turned-times, sum-turned, signs-at, signs-length}
-use Rattle.doubles.proofs.Laws.Below.{div-not-below}
+use Rattle.doubles.proofs.Laws.Below.{div-not-below, one-not-below}
+use Rattle.doubles.proofs.Laws.Ends.{or-else}
 use Rattle.doubles.proofs.Laws.Steps.{all-each}
 use Rattle.penalties.specs.Odd.{Odd}
 use Rattle.designs.proofs.Laws.Gradients.{gradient-turned}
+use Rattle.designs.proofs.Laws.Preparation.{constant-at, product-at, lipschitz-not-below}
 use Rattle.designs.specs.Design.{Design, lipschitz, prepared, movedAll, extrapolated, squaredError, datafit}
 use Rattle.definition.specs.Epoch.{Point, constant, gradientOf, violationOf, known, newWeight, fine, visited}
 use Rattle.definition.specs.Extrapolation.{U, entry, objectiveOf, objective, better, pointOf}
@@ -33,7 +35,6 @@ use Rattle.two_runs.proofs.TwoRuns.{two-solves, report-same}
 use Rattle.signs.specs.Turning.{SameRun}
 use Rattle.signs.proofs.Laws.Exact.{unlike-none, sum-exact, signs-each, finite-same, signs-zeros}
 use Rattle.signs.proofs.Laws.Columns.{with-values, dot-turned, squares-same, moved-turned, moved-by-turned, moved-finite-same}
-use Rattle.signs.proofs.Laws.Preparation.{constant-at, product-at, lipschitz-not-below, or-else, one-not-below}
 
 datafit-same : {t : Bool} {y y' v v' : List Float} → Signs (λ (i : ℕ). t) y y' → Signs (λ (i : ℕ). t) v v'
     → datafit y v (length y) ≡ datafit y' v' (length y')

@@ -4,12 +4,14 @@ use mathlib.Core.Path.{_≡_, refl, ap, _∙_}
 use mathlib.Core.Bool.{Bool, true, false}
 use mathlib.Core.List.{List, [], _∷_, _++_}
 use Prim.Native.Nat.{ℕ, _≤_, _<_}
+use native.Mathlib.Nat.{le-refl, le-trans}
 use lib.Dec.{eqb}
 use lib.ListN.{length, getD, set, length-set}
 use lib.Seq.{getD-set-same, getD-set-other}
 use lib.Ieee.{Float, nan, eq}
 use borrow.Author.Tests.{eqb-true, eqb-false}
 use Rattle.doubles.specs.Num.{#0, at, pick}
+use Rattle.doubles.specs.Steps.{upto}
 use Rattle.doubles.proofs.Laws.Choice.{smaller-most}
 use Rattle.doubles.proofs.Laws.Steps.{steps-same, tab-same, length-tab, getD-tab}
 use Rattle.definition.specs.WorkingSet.{isZero, support, size, insert, others, workingSet}
@@ -109,8 +111,13 @@ module _ (P : Pair) (H : Respects P) where
       related (Both (Points P)) (H .skipped j l) (λ e. both-going r)
       (λ z. related (Both (Points P)) (H .fine r j l z) (λ f. both-going (visited-related r j l z f)) (λ f. both-bad))
 
-  pub visits-related : {ws : List ℕ} → FeatureSet (P .p) ws → {q q' : Point} → Points P q q'
-      → Both (Points P) (visits (first P) ws q) (visits (second P) ws q')
-  unfolding visits
-  visits-related {ws} C r =
-      upto-related (λ (k : ℕ). Points P) (Points P) _ _ (length ws) _ _ r (λ i l x y s. visit-related (getD ws i 0) (C .each i l) x y s)
+  -- the first n visits, and all of them
+  module _ {ws : List ℕ} (C : FeatureSet (P .p) ws) {q q' : Point} (r : Points P q q') where
+    pub visits-so-far : (n : ℕ) → n ≤ length ws
+        → Both (Points P) (upto (λ i. visit (first P) (getD ws i 0)) n q) (upto (λ i. visit (second P) (getD ws i 0)) n q')
+    visits-so-far n l =
+        upto-related (λ (k : ℕ). Points P) (Points P) _ _ n _ _ r (λ i m x y s. visit-related (getD ws i 0) (C .each i (le-trans m l)) x y s)
+
+    pub visits-related : Both (Points P) (visits (first P) ws q) (visits (second P) ws q')
+    unfolding visits
+    visits-related = visits-so-far (length ws) (le-refl (length ws))

@@ -1,24 +1,25 @@
--- What is prepared: where it stands, and that no constant is below zero. Assumes nothing.
+-- What is prepared: where it stands; that every constant is a double, and that none is below zero. Assumes nothing.
 use mathlib.Core.Path.{_≡_, refl, _∙_}
-use mathlib.Core.Bool.{Bool, true, false, true≢false}
+use mathlib.Core.Bool.{true, false, true≢false}
 use mathlib.Core.List.{List}
 use Prim.Native.Nat.{ℕ, zero, suc, _+_, _*_, _≤_, _<_}
 use native.Mathlib.Nat.{mul-pos, lt-irrefl}
 use native.Mathlib.Omega.{arith}
 use lib.ListN.{List·getD-append}
 use lib.Seq.{getD-append-add}
-use lib.Ieee.{Float, nan, inf, fin, binary64, up, down, lt, eq, ofInt, ofBits}
+use lib.Dec.{T}
+use lib.Ieee.{Float, nan, inf, fin, binary64, up, down, lt, eq, fits, ofInt}
 use lib.Ieee.Exact.{HasValue}
 use lib.Ieee.Back.{round-whole}
-use lib.Ieee.Fits.{down-pos}
-use Rattle.doubles.specs.Num.{_⊗_, #0, #1, count, at, _or_}
+use lib.Ieee.Fits.{down-pos, div-fits}
+use Rattle.doubles.specs.Num.{_⊗_, #0, count, at}
 use Rattle.doubles.specs.Steps.{tab}
 use Rattle.doubles.specs.Sign.{nonzero}
 use Rattle.doubles.proofs.Laws.Turn.{zero₂}
 use Rattle.doubles.proofs.Laws.Order.{pos-lt, eq-zero}
 use Rattle.doubles.proofs.Laws.Below.{sum-not-below, square-not-below, div-not-below}
 use Rattle.doubles.proofs.Laws.Steps.{length-tab, getD-tab}
 use Rattle.designs.specs.Design.{Design, dot, squares, lipschitz, dots, prepared}
 
 -- ---- where they stand
 module _ (X : Design) (y : List Float) (j : ℕ) (l : j < X .p) where
@@ -30,6 +31,10 @@ module _ (X : Design) (y : List Float) (j : ℕ) (l : j < X .p) where
   unfolding prepared dots
   product-at =
       (rw (length-tab (lipschitz X) (X .p)) at (getD-append-add (tab (lipschitz X) (X .p)) (dots X y) j nan)) ∙ getD-tab (λ i. dot X i y) (X .p) j nan l
+
+  pub constant-fits : T (fits binary64 (at (prepared X y) j))
+  unfolding lipschitz
+  constant-fits = rw constant-at (div-fits binary64 (squares X j) (count (X .n)))
 
 -- ---- a count of samples is above zero
 above-zero : (n : ℕ) (x : Float) → 0 < n → HasValue x false n 1 → (lt x #0 ≡ false) × (eq x #0 ≡ false)
@@ -53,12 +58,3 @@ lipschitz-not-below X j a b =
     div-not-below (squares X j) (count (X .n))
     (sum-not-below (λ k. X .value j k ⊗ X .value j k) (X .many j) (λ k l. square-not-below (X .value j k)))
     (c .0) (c .1)
-
-pub or-else : (a b : Bool) → a or b ≡ true → a ≡ false → b ≡ true
-unfolding _or_
-or-else true b h e = absurd (true≢false e)
-or-else false b h e = h
-
-pub one-not-below : lt #1 #0 ≡ false
-unfolding lt ofBits
-one-not-below = refl
