@@ -1,4 +1,5 @@
 //! Replays stored answers of the oracle through the library's exports, bit for bit, and stored problem files through the program besides:
+//!   replay leaves LIST             records of soft thresholds and proxes
 //!   replay runs LIST               records of whole fits and of working sets
 //!   replay tiles LIST COMMAND..    problem files with what the program must print, on which the sign law is run too
 //! What differs is named, then everything is counted. The status is 1 where something promised differs, 2 where a list cannot be used.
@@ -8,6 +9,7 @@ mod calls;
 #[path = "../large/cases.rs"]
 #[allow(dead_code)] // The makers of the problems of full size.
 mod cases;
+mod leaves;
 #[path = "../large/lent.rs"]
 mod lent;
 mod problems;
@@ -33,9 +35,10 @@ fn stored(list: &str) -> Vec<u8> {
 fn main() {
     let words: Vec<String> = std::env::args().skip(1).collect();
     let passed = match words.iter().map(String::as_str).collect::<Vec<_>>().as_slice() {
+        ["leaves", list] => leaves::replay(&stored(list)),
         ["runs", list] => runs::replay(&stored(list)),
         ["tiles", list, command @ ..] if !command.is_empty() => tiles::replay(&stored(list), command),
-        _ => fail("usage: replay runs LIST, or replay tiles LIST COMMAND.."),
+        _ => fail("usage: replay leaves LIST, replay runs LIST, or replay tiles LIST COMMAND.."),
     };
     exit(if passed { 0 } else { 1 })
 }

@@ -1,6 +1,29 @@
-//! The words of a record: hex numbers with spaces between them, a double as its bits. An array stands behind its count.
+//! The records of a list, and the words of one: hex numbers with spaces between them, a double as its bits. An array stands behind its count.
 
+use crate::NAMED;
 use std::str::SplitAsciiWhitespace;
+
+/// The records of a list, each with the number of its line: all lines but empty ones and comments.
+pub fn records(list: &str) -> impl Iterator<Item = (usize, &str)> {
+    (1..).zip(list.lines()).filter(|(_, line)| !line.is_empty() && !line.starts_with('#'))
+}
+
+/// Counts the records that are not answered as they say, and names the first.
+#[derive(Default)]
+pub struct Wrong(usize);
+
+impl Wrong {
+    pub fn add(&mut self, number: usize, how: &str) {
+        self.0 += 1;
+        if self.0 <= NAMED {
+            println!("line {number} {how}");
+        }
+    }
+
+    pub fn count(&self) -> usize {
+        self.0
+    }
+}
 
 pub struct Words<'a>(SplitAsciiWhitespace<'a>);
 

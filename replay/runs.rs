@@ -4,8 +4,7 @@ use crate::calls::working_set;
 use crate::cases::{Case, Ending, Penalty, Settings};
 use crate::lent::{GUARDS, INDEX_GUARD};
 use crate::problems::{answer, listing};
-use crate::records::Words;
-use crate::NAMED;
+use crate::records::{records, Words, Wrong};
 
 /// What became of a record.
 enum Verdict {
@@ -97,7 +96,7 @@ struct Counts {
     fits: usize,
     sets: usize,
     unasked: usize,
-    wrong: usize,
+    wrong: Wrong,
 }
 
 fn count(counts: &mut Counts, number: usize, record: &str) {
@@ -114,15 +113,11 @@ fn count(counts: &mut Counts, number: usize, record: &str) {
         }
         _ => None,
     };
-    let wrong = match verdict.unwrap_or(Verdict::Bad) {
-        Verdict::Same => return,
-        Verdict::Unasked => return counts.unasked += 1,
-        Verdict::Differs => "differs",
-        Verdict::Bad => "is bad",
-    };
-    counts.wrong += 1;
-    if counts.wrong <= NAMED {
-        println!("line {number} {wrong}");
+    match verdict.unwrap_or(Verdict::Bad) {
+        Verdict::Same => {}
+        Verdict::Unasked => counts.unasked += 1,
+        Verdict::Differs => counts.wrong.add(number, "differs"),
+        Verdict::Bad => counts.wrong.add(number, "is bad"),
     }
 }
 
@@ -130,11 +125,11 @@ fn count(counts: &mut Counts, number: usize, record: &str) {
 pub fn replay(list: &[u8]) -> bool {
     let text = String::from_utf8_lossy(list);
     let mut counts = Counts::default();
-    let records = text.lines().enumerate().filter(|(_, line)| !line.is_empty() && !line.starts_with('#'));
-    for (at, record) in records {
-        count(&mut counts, at + 1, record);
+    for (number, record) in records(&text) {
+        count(&mut counts, number, record);
     }
     let Counts { cases, fits, sets, unasked, wrong } = counts;
+    let wrong = wrong.count();
     println!("{cases} cases, {wrong} differ");
     println!("{fits} fits, {unasked} of them not asked: a dense design with starts or rows; {sets} working sets");
     wrong == 0 && cases > 0

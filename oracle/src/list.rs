@@ -1,6 +1,7 @@
 //! Writes the list of a layer: comments that say how it was made, then the
 //! records.
 
+use crate::departures;
 use crate::random::Random;
 use crate::record::{unwritable, Differences, Record};
 use crate::words::Word;
@@ -80,7 +81,11 @@ impl Recipe {
 
     fn header(&self, seed: u64, count: u64, parts: &[Part]) -> Vec<String> {
         let mut lines = vec![
-            format!("made by: oracle list {} {seed} {count}", self.layer),
+            format!(
+                "made by: oracle {}list {} {seed} {count}",
+                departures::words(),
+                self.layer
+            ),
             format!("seed {seed}, count {count}"),
         ];
         lines.extend(self.how.iter().map(|line| line.to_string()));

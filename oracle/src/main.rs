@@ -6,6 +6,7 @@
 mod ask;
 mod calls;
 mod check;
+mod departures;
 mod designs;
 mod files;
 mod float;
@@ -23,9 +24,9 @@ mod words;
 use record::Variant;
 use std::process::ExitCode;
 
-const USAGE: &str = "usage: oracle ask WORD.. | oracle answer | \
-    oracle list leaves|designs|runs|tiles SEED COUNT | oracle tile [published] | oracle old | \
-    oracle files SEED COUNT | oracle damage SEED COUNT | oracle large [quick] | oracle check";
+const USAGE: &str = "usage: oracle [--without REQUEST].. COMMAND, where a command is ask WORD.. | answer | \
+    list leaves|designs|runs|tiles SEED COUNT | tile [published] | old | \
+    files SEED COUNT | damage SEED COUNT | large [quick] | check";
 
 fn decimal(word: &str) -> Result<u64, String> {
     let number = word.parse::<u64>();
@@ -42,7 +43,23 @@ fn list(words: &[&str]) -> Result<(), String> {
     }
 }
 
+/// The words behind those that turn departures off, which take effect.
+fn command(arguments: &[String]) -> Result<&[String], String> {
+    let (mut off, mut rest) = (Vec::new(), arguments);
+    while let [word, request, behind @ ..] = rest {
+        if word != "--without" {
+            break;
+        }
+        let request = decimal(request)?;
+        off.push(u32::try_from(request).map_err(|_| format!("there is no request {request}"))?);
+        rest = behind;
+    }
+    departures::turn_off(off)?;
+    Ok(rest)
+}
+
 fn run(arguments: &[String]) -> Result<(), String> {
+    let arguments = command(arguments)?;
     let words: Vec<&str> = arguments.iter().map(String::as_str).collect();
     match words[..] {
         ["ask", _, ..] => ask::ask(&arguments[1..]),

@@ -1,4 +1,5 @@
-// One record: a code, the inputs of a call and the answers that the oracle had. The first `n` of the words are the record.
+// One record: a code, the inputs of a call and the answers that the oracle had. The first `n` of the words are the record. Codes 1 and 2, the soft
+// threshold and the prox, are replayed through the exports (replay/).
 ghost use mathlib.Core.Path.{_≡_};
 ghost use Prim.Native.Nat.{_+_, _≤_};
 ghost use lib.ListN.{length, take};
@@ -14,14 +15,11 @@ use list_reader::progress::Compared;
 use list_reader::progress::judge;
 use list_reader::same;
 use penalties::inner;
-use penalties::prox_funcs::soft_thresholding;
 use penalties::separable;
 
 pub fn replay(words: &Words, n: usize) -> Compared {
     let code = words[0];
     match code {
-        1 => soft(words, n),
-        2 => prox(words, n),
         3 => distance(words, n),
         4 => value(words, n),
         5 => solve(words, n),
@@ -29,22 +27,6 @@ pub fn replay(words: &Words, n: usize) -> Compared {
         7 => inner_value(words, n),
         _ => Compared::Bad,
     }
-}
-
-fn soft(words: &Words, n: usize) -> Compared {
-    if n != 4 {
-        return Compared::Bad;
-    }
-    let r = soft_thresholding(double(words[1]), double(words[2]));
-    judge(same(r, double(words[3])))
-}
-
-fn prox(words: &Words, n: usize) -> Compared {
-    if n != 7 || 2 < words[1] {
-        return Compared::Bad;
-    }
-    let r = separable::prox(penalty_at(words, 1), double(words[4]), double(words[5]));
-    judge(same(r, double(words[6])))
 }
 
 fn distance(words: &Words, n: usize) -> Compared {

@@ -1,8 +1,10 @@
 //! What is answered to the cases. The refusals are document 01's, since the
-//! Rust has none; everything else is asked of the Rust.
+//! Rust has none; everything else is asked of the Rust, but for the departures
+//! of document 02.
 
 use super::{Kind, Leaf, Penalty, SIZES};
 use crate::calls::Leaves;
+use crate::departures;
 use crate::record::{status, Answers, Case, Variant};
 use crate::words::Word;
 use crate::{loops, published};
@@ -14,6 +16,15 @@ const SIZE_REFUSED: u32 = 1;
 const SETTING_REFUSED: u32 = 2;
 
 impl Penalty {
+    /// What the prox hands to the soft threshold; MCP's has none.
+    fn threshold(&self, step: f64) -> Option<f64> {
+        match self.kind {
+            Kind::L1 => Some(self.alpha * step),
+            Kind::L1PlusL2 => Some(self.second * self.alpha * step),
+            Kind::Mcp => None,
+        }
+    }
+
     /// Comparisons of doubles: a NaN is outside, -0.0 counts as 0.
     pub fn in_range(&self) -> bool {
         let alpha = self.alpha.is_finite() && self.alpha >= 0.0;
@@ -81,6 +92,30 @@ fn solve<V: Leaves>(size: u32, rows: &[f64]) -> Answers {
 }
 
 impl Leaf {
+    /// Whether a NaN reaches the soft threshold, which is where request 8 departs.
+    fn hands_nan(&self) -> bool {
+        match self {
+            Leaf::Soft { x, threshold } => x.is_nan() || threshold.is_nan(),
+            Leaf::Prox {
+                penalty,
+                value,
+                step,
+            } => {
+                let threshold = penalty.threshold(*step);
+                threshold.is_some_and(|threshold| value.is_nan() || threshold.is_nan())
+            }
+            _ => false,
+        }
+    }
+
+    /// With the departures that hold. A NaN divided by anything is a NaN.
+    fn departed(&self) -> Answers {
+        if departures::holds(departures::NAN_STAYS) && self.hands_nan() {
+            return plain(f64::NAN);
+        }
+        self.answers_of::<loops::Rust>()
+    }
+
     fn answers_of<V: Leaves>(&self) -> Answers {
         match self {
             Leaf::Soft { x, threshold } => plain(V::soft(*x, *threshold)),
@@ -116,7 +151,7 @@ impl Case for Leaf {
 
     fn answers(&self, variant: Variant) -> Answers {
         match variant {
-            Variant::Loops => self.answers_of::<loops::Rust>(),
+            Variant::Loops => self.departed(),
             Variant::Published => self.answers_of::<published::Rust>(),
         }
     }

@@ -2,6 +2,7 @@
 
 use super::cases::{prox, soft, value, violation, Made};
 use super::systems::system;
+use crate::departures;
 use crate::list::{Part, Recipe};
 use crate::random::Random;
 use crate::record::Record;
@@ -17,13 +18,25 @@ const HOW: [&str; 8] = [
     "size. The answers are those of the loops variant.",
 ];
 
+/// Which departure of document 02 the answers have.
+fn departed() -> Vec<String> {
+    if !departures::holds(departures::NAN_STAYS) {
+        return Vec::new();
+    }
+    let lines = [
+        "by request 8 a NaN that reaches the soft threshold is answered with NaN;",
+        "published answers +0.0, or what follows from it",
+    ];
+    lines.map(String::from).to_vec()
+}
+
 pub const LIST: Recipe = Recipe {
     layer: "leaves",
     shares: &[(1, 160), (2, 235), (3, 140), (4, 115), (5, 134), (6, 120)],
     last: 7,
     how: &HOW,
     part,
-    notes: |_| Vec::new(),
+    notes: |_| departed(),
 };
 
 fn make(code: u32, index: usize, random: &mut Random) -> Made {
