@@ -51,7 +51,8 @@ extern "C" {
 
    Refusals:
      1 at 0       n, p or values_len outside its limits, values_len not n·p, y_len not n
-     2 at 0       a setting outside its range, an unknown penalty too
+     2 at k       setting k is the first outside its range: 0 iterations, 1 epochs, 2 start, 3 depth, 4 tolerance, 5 alpha, 6 second; an unknown penalty
+                  has no second number in range
      3 at 0       a lent buffer shorter than its room
      6 at i       target i is NaN or infinite
      6 at n + k   no target is, but value k
@@ -75,7 +76,7 @@ uint32_t koyramutey_fit_dense(
 
    Refusals:
      1 at 0       n, p or values_len outside its limits, starts_len not p + 1, rows_len not values_len, y_len not n
-     2, 3 at 0    as above
+     2, 3         as above
      4 at i       starts[i] is the first and not 0, is below the start before it, is above values_len, or is the last and not values_len
      5 at k       rows[k] is at or above n, or not above the row before it in its column
      6, 7         as above */
@@ -119,7 +120,7 @@ uint32_t koyramutey_full_grad_dense(
 
    Refusals:
      1 at 0       p outside its limits, violations_len not w_len
-     2 at 0       start outside 1 to p
+     2 at 2       start, which is setting 2 of a fit, outside 1 to p
      3 at 0       indices shorter than p
      8 at j       weight j is zero and its violation NaN, infinite or negative (-0.0 is not); violations of nonzero weights are not looked at */
 uint32_t koyramutey_working_set(
@@ -128,6 +129,35 @@ uint32_t koyramutey_working_set(
     size_t start,
     uint32_t *indices, size_t indices_len,
     size_t *size,
+    size_t *place);
+
+/* The value of a penalty over w_len weights, any doubles; penalty, alpha and second as in the settings of a fit.
+     0 L1         alpha·sum|w|
+     1 L1PlusL2   alpha·(second·sum|w| + (0.5·(1 - second))·sum w^2)
+     2 MCP        the sum of alpha·|w| - w^2/(2·second) if |w| < second·alpha, else (second·alpha^2)/2
+
+   Refusals:
+     1 at 0       w_len outside 1 to 8,192
+     2 at 5       alpha is not finite or below 0
+     2 at 6       second is outside its range, or the penalty is unknown */
+uint32_t koyramutey_penalty_value(
+    uint32_t penalty, double alpha, double second,
+    const double *w, size_t w_len,
+    double *value,
+    size_t *place);
+
+/* The violation of one feature with weight w at a gradient, any doubles.
+     where w is zero   |gradient| less alpha (L1PlusL2: alpha·second) if that is above 0, else +0.0
+     0 L1              |-gradient - sign·alpha|
+     1 L1PlusL2        |-gradient - alpha·(sign·second + (1 - second)·w)|
+     2 MCP             |gradient + alpha·sign - w/second| if |w| < alpha·second, else |gradient|
+
+   Refusals:
+     2 at 5, 2 at 6    as above */
+uint32_t koyramutey_penalty_violation(
+    uint32_t penalty, double alpha, double second,
+    double w, double gradient,
+    double *violation,
     size_t *place);
 
 /* The soft threshold of any two doubles: NaN where x or t is NaN; else x - t if x > t, x + t if x < -t, else +0.0. */

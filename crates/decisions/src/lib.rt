@@ -37,7 +37,7 @@ fn start_in_range(settings: Settings) -> bool
     both(1 <= settings.start, settings.start <= 8192)
 }
 
-// 2, for the first setting that is outside its range.
+// 2, for the first setting that is outside its range; its place is the setting's index, and the penalty's two come last.
 pub fn check_settings(settings: Settings) -> Verdict
     ensures { λ r. ⌜ verdictOf r ≡ call.settingsFault settings ⌝ }
 {
@@ -45,16 +45,16 @@ pub fn check_settings(settings: Settings) -> Verdict
         return refused(2, 0);
     }
     if 100000 < settings.epochs {
-        return refused(2, 0);
+        return refused(2, 1);
     }
     if start_in_range(settings) {} else {
-        return refused(2, 0);
+        return refused(2, 2);
     }
     if depth_in_range(settings) {} else {
-        return refused(2, 0);
+        return refused(2, 3);
     }
     if alpha_in_range(settings.tolerance) {} else {
-        return refused(2, 0);
+        return refused(2, 4);
     }
     let penalty = settings.penalty;
     check_range(penalty)

@@ -9,7 +9,7 @@ use lib.Ieee.{Float, eq, le}
 use Rattle.doubles.specs.Num.{_⊘_, #0, #1, at, finite, pick, _and_, _or_}
 use Rattle.doubles.specs.Steps.{all, tab, Stage, going, stopped, bad}
 use Rattle.doubles.specs.Buffer.{put}
-use Rattle.doubles.specs.Answer.{Outcome, refused, answered, Fault, unless, _then_}
+use Rattle.doubles.specs.Answer.{Outcome, refused, answered, Fault, unlessAt, unless, _then_}
 use Rattle.penalties.specs.Penalty.{alphaLegal, penaltyFault}
 use Rattle.designs.specs.Design.{prepared}
 use Rattle.designs.specs.Given.{Given, designOf}
@@ -30,14 +30,15 @@ startLegal S = leb 1 (S .start) and leb (S .start) 8192
 unfoldable pub depthLegal : Settings → Bool
 depthLegal S = pick (S .extrapolate) (leb 1 (S .depth) and leb (S .depth) 10) true
 
--- one setting after the other: iterations, epochs, start, depth, tolerance, then the penalty's alpha and its second number
+-- request 1: "Name the setting: iterations, epochs, start, depth, tolerance, alpha, the penalty's second number, tested in that order, with its index 0
+-- to 6 as the place"; the last two are the penalty's
 unfoldable pub settingsFault : Settings → Fault
 settingsFault S =
-    unless (leb (S .iterations) 1000) 2
-    (unless (leb (S .epochs) 100000) 2
-    (unless (startLegal S) 2
-    (unless (depthLegal S) 2
-    (unless (alphaLegal (S .tolerance)) 2
+    unlessAt (leb (S .iterations) 1000) 2 0
+    (unlessAt (leb (S .epochs) 100000) 2 1
+    (unlessAt (startLegal S) 2 2
+    (unlessAt (depthLegal S) 2 3
+    (unlessAt (alphaLegal (S .tolerance)) 2 4
     (penaltyFault (S .penalty))))))
 
 -- ---- 3: "p weights, n fit entries, p indices, and float scratch 3p, or (2K+5)·p + n with extrapolation"

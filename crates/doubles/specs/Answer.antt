@@ -28,10 +28,14 @@ abbrev pub verdictOf : Verdict → Fault
 verdictOf Verdict.Fine = none
 verdictOf (Verdict.Refused r) = refused (r .number) (r .place)
 
--- a test of place 0, and what follows it where it holds
+-- a test, and what follows it where it holds; else a refusal at a place
+abbrev pub unlessAt : {A : Type 0} → Bool → ℕ → ℕ → Outcome A → Outcome A
+unlessAt true number place o = o
+unlessAt false number place o = refused number place
+
+-- of place 0
 abbrev pub unless : {A : Type 0} → Bool → ℕ → Outcome A → Outcome A
-unless true number o = o
-unless false number o = refused number 0
+unless b number o = unlessAt b number 0 o
 
 -- what follows tests that found nothing
 infixr 15 _then_

@@ -12,6 +12,8 @@ use Rattle.exports.proofs.koyramutey_fit_dense.Reads as fit-dense-reads
 use Rattle.exports.proofs.koyramutey_fit_csc.Reads as fit-csc-reads
 use Rattle.exports.proofs.koyramutey_full_grad_dense.Reads as full-grad-reads
 use Rattle.exports.proofs.koyramutey_working_set.Reads as working-set-reads
+use Rattle.exports.proofs.koyramutey_penalty_value.Reads as value-reads
+use Rattle.exports.proofs.koyramutey_penalty_violation.Reads as violation-reads
 use Rattle.exports.proofs.koyramutey_soft_threshold.Reads as soft-threshold-reads
 use Rattle.exports.proofs.koyramutey_prox.Reads as prox-reads
 
@@ -50,6 +52,19 @@ working-set-tight : (κs : _) (a : _) (r r' : _) (s s' : _) → working-set-read
 working-set-tight κs a r r' s s' p q = (coincide (p .0) (q .0), coincide (p .1) (q .1), coincide (p .2) (q .2), coincide (p .3) (q .3))
 
 -- ---- the leaves
+-- behind the penalty's three numbers, the weights, or weight and gradient, come the answer and the place
+penalty-value-tight : (κs : _) (a : _) (r r' : _) (s s' : _) → value-reads.Post κs a r s → value-reads.Post κs a r' s'
+    → let t = s .1 .1 .1 .1 in
+    let t' = s' .1 .1 .1 .1 in
+    (r ≡ r') × (now (t .1 .0) ≡ now (t' .1 .0)) × (now (t .0) ≡ now (t' .0))
+penalty-value-tight κs a r r' s s' p q = (coincide (p .0) (q .0), coincide (p .1) (q .1), coincide (p .2) (q .2))
+
+penalty-violation-tight : (κs : _) (a : _) (r r' : _) (s s' : _) → violation-reads.Post κs a r s → violation-reads.Post κs a r' s'
+    → let t = s .1 .1 .1 .1 .1 in
+    let t' = s' .1 .1 .1 .1 .1 in
+    (r ≡ r') × (now (t .1 .0) ≡ now (t' .1 .0)) × (now (t .0) ≡ now (t' .0))
+penalty-violation-tight κs a r r' s s' p q = (coincide (p .0) (q .0), coincide (p .1) (q .1), coincide (p .2) (q .2))
+
 soft-threshold-tight : (a : _) (r r' : Float) (s : _) → soft-threshold-reads.Post tt a r s → soft-threshold-reads.Post tt a r' s → r ≡ r'
 soft-threshold-tight a r r' s p q = coincide p q
 

@@ -2,22 +2,24 @@
 // answer a double; each other call answers document 01's refusal number, 0 where there is none, and leaves the refusal's place in `place`.
 ghost use mathlib.Core.List.{[]};
 ghost use mathlib.Core.Path.{_≡_};
-ghost use Rattle.doubles.specs.Answer.{left};
+ghost use Rattle.penalties.specs.Penalty as pen;
 ghost use Rattle.penalties.specs.Soft.{soft};
 ghost use Rattle.designs.specs.Design.{denseShape, cscShape, nothing};
 ghost use Rattle.designs.specs.Given.{given};
 ghost use Rattle.datafits.specs.Calls as calls;
 ghost use Rattle.definition.specs.Call as call;
-ghost use Rattle.definition.specs.WorkingSet as set;
 ghost use Rattle.worksets.specs.Call as sets;
 ghost use Rattle.plain_numbers.specs.Codes as codes;
-ghost use Rattle.plain_numbers.specs.Codes.{numberOfFault, placeOfFault};
+ghost use Rattle.plain_numbers.specs.Codes.{numberIn, placeIn, kept};
 use penalties::prox_funcs::soft_thresholding;
+use penalties::separable;
 use plain_numbers::csc;
 use plain_numbers::dense;
+use plain_numbers::penalty_of;
 use plain_numbers::prox_of;
 use plain_numbers::settings_of;
 use plain_numbers::tell;
+use plain_numbers::tell_number;
 use plain_numbers::tell_size;
 use plain_numbers::tell_verdict;
 use solvers::coordinate_descent;
@@ -167,8 +169,8 @@ pub extern "C" fn koyramutey_full_grad_dense(
 ) -> u32
     ensures { λ r. ⌜ (let g = given (denseShape n p) nothing nothing (now (values .entry)) [] in
         let fault = calls.fullGradFault g (now (prepared .entry)) (now (fit .entry)) (now (grad .entry)) in
-        (r ≡ numberOfFault fault)
-        × (now (place .exit) ≡ placeOfFault fault)
+        (r ≡ numberIn fault)
+        × (now (place .exit) ≡ placeIn fault)
         × (now (grad .exit) ≡ calls.fullGrad g (now (prepared .entry)) (now (fit .entry)) (now (grad .entry)))) ⌝ }
 {
     let none = [0u32; 0];
@@ -188,10 +190,8 @@ pub extern "C" fn koyramutey_working_set(
     size: &mut usize,
     place: &mut usize,
 ) -> u32
-    ensures { λ r. ⌜ (let fault = sets.wsFault (now (violations .entry)) (now (w .entry)) start (now (indices .entry)) in
-        (r ≡ numberOfFault fault)
-        × (now (place .exit) ≡ placeOfFault fault)
-        × (now (size .exit) ≡ left fault (set.size start (now (w .entry))) (now (size .entry)))
+    ensures { λ r. ⌜ (let answer = sets.wsCall (now (violations .entry)) (now (w .entry)) start (now (indices .entry)) in
+        (r ≡ numberIn answer) × (now (place .exit) ≡ placeIn answer) × (now (size .exit) ≡ kept answer (now (size .entry)))
         × (now (indices .exit) ≡ sets.wsLeft (now (violations .entry)) (now (w .entry)) start (now (indices .entry)))) ⌝ }
 {
     let answer = construct_ws_from_kkt(violations, w, start, indices);
@@ -199,6 +199,41 @@ pub extern "C" fn koyramutey_working_set(
 }
 
 // ---- the leaves
+
+// penalties::separable::value. The value is left in `value`.
+#[no_mangle]
+pub extern "C" fn koyramutey_penalty_value(
+    penalty: u32,
+    alpha: f64,
+    second: f64,
+    w: &[f64],
+    value: &mut f64,
+    place: &mut usize,
+) -> u32
+    ensures { λ r. ⌜ (let answer = pen.penaltyValueCall (codes.codedPenalty penalty alpha second) (now (w .entry)) in
+        (r ≡ numberIn answer) × (now (place .exit) ≡ placeIn answer) × (now (value .exit) ≡ kept answer (now (value .entry)))) ⌝ }
+{
+    let answer = separable::value(penalty_of(penalty, alpha, second), w);
+    tell_number(answer, value, place)
+}
+
+// penalties::separable::subdiff_distance. The violation is left in `violation`.
+#[no_mangle]
+pub extern "C" fn koyramutey_penalty_violation(
+    penalty: u32,
+    alpha: f64,
+    second: f64,
+    w: f64,
+    gradient: f64,
+    violation: &mut f64,
+    place: &mut usize,
+) -> u32
+    ensures { λ r. ⌜ (let answer = pen.penaltyViolationCall (codes.codedPenalty penalty alpha second) w gradient in
+        (r ≡ numberIn answer) × (now (place .exit) ≡ placeIn answer) × (now (violation .exit) ≡ kept answer (now (violation .entry)))) ⌝ }
+{
+    let answer = separable::subdiff_distance(penalty_of(penalty, alpha, second), w, gradient);
+    tell_number(answer, violation, place)
+}
 
 // penalties::prox_funcs::soft_thresholding.
 #[no_mangle]

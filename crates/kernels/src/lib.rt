@@ -3,7 +3,7 @@
 ghost use mathlib.Core.Path.{_≡_};
 ghost use lib.ListN.{length};
 ghost use Rattle.doubles.specs.Answer.{verdictOf};
-ghost use Rattle.plain_numbers.specs.Codes.{numberOfFault, placeOfFault};
+ghost use Rattle.plain_numbers.specs.Codes.{numberIn, placeIn};
 ghost use Rattle.kernels.specs.Kernels as kernels;
 use columns::column_dot;
 use columns::column_update;
@@ -41,8 +41,8 @@ pub extern "C" fn kernel_column_product_dense(
     place: &mut usize,
 ) -> u32
     ensures { λ r. ⌜ (let fault = kernels.kernelFault n p (now (values .entry)) column (length (now (v .entry))) in
-        (r ≡ numberOfFault fault)
-        × (now (place .exit) ≡ placeOfFault fault)
+        (r ≡ numberIn fault)
+        × (now (place .exit) ≡ placeIn fault)
         × (now (product .exit) ≡ kernels.productLeft n p (now (values .entry)) column (now (v .entry)) (now (product .entry)))) ⌝ }
 {
     let none = [0u32; 0];
@@ -66,8 +66,8 @@ pub extern "C" fn kernel_column_update_dense(
     place: &mut usize,
 ) -> u32
     ensures { λ r. ⌜ (let fault = kernels.kernelFault n p (now (values .entry)) column (length (now (fit .entry))) in
-        (r ≡ numberOfFault fault)
-        × (now (place .exit) ≡ placeOfFault fault)
+        (r ≡ numberIn fault)
+        × (now (place .exit) ≡ placeIn fault)
         × (now (fit .exit) ≡ kernels.updateLeft n p (now (values .entry)) column difference (now (fit .entry)))) ⌝ }
 {
     let none = [0u32; 0];

@@ -3,7 +3,7 @@
 use mathlib.Core.Path.{_≡_, refl}
 use mathlib.Core.Bool.{Bool, true, false, false≢true}
 use lib.Dec.{T}
-use lib.Ieee.{Float, nan, inf, fin, ofBits, neg, mul, lt, le, eq, isNan}
+use lib.Ieee.{Float, nan, inf, fin, ofBits, neg, mul, div, lt, le, eq, isNan}
 use Rattle.doubles.specs.Num.{_⊗_, #0, #1, finite, pick, _or_}
 use Rattle.doubles.specs.Sign.{nonzero}
 use Rattle.doubles.specs.Answer.{none}
@@ -30,10 +30,10 @@ soft-nan x = go (isNan x)
     go true = unfold _or_ in refl
     go false = unfold _or_ in refl
 
--- and so is a NaN alpha of L1, whose threshold it is
-pub prox-of-nan : (v step : Float) → prox (L1 nan) v step ≡ nan
-unfolding prox proxL1 mul
-prox-of-nan v step = soft-nan v
+-- and so is a NaN ratio of L1PlusL2, whose threshold it is
+pub prox-of-nan : (alpha v step : Float) → prox (L1PlusL2 alpha nan) v step ≡ nan
+unfolding prox proxL1PlusL2 mul div
+prox-of-nan alpha v step = rw (soft-nan v)
 
 -- an infinite threshold is a number: what lies within it still becomes +0.0
 pub soft-infinite : soft (inf true) (inf false) ≡ #0

@@ -20,7 +20,7 @@ use Rattle.doubles.proofs.Laws.Number.{product-number}
 use Rattle.doubles.proofs.Laws.Signs.{zero-turned, turned-scaled, turned-times, signum-turned, sum-same, signs-at, signs-length}
 use Rattle.penalties.specs.Soft.{soft01, soft}
 use Rattle.doubles.specs.Answer.{none}
-use Rattle.doubles.proofs.Laws.Verdict.{spared}
+use Rattle.doubles.proofs.Laws.Verdict.{sparedAt}
 use Rattle.penalties.specs.Penalty.{alphaLegal, ratioLegal, alphaOf, secondLegal, penaltyFault, sumAbs, sumSquares, mcpOf, sumMcp, value}
 use Rattle.penalties.specs.Penalty.{proxL1, proxL1PlusL2, proxMcp, prox, excess, violationL1, violationL1PlusL2, violationMcp, violation}
 use Rattle.penalties.specs.Odd.{Odd}
@@ -192,11 +192,11 @@ module _ {s : ℕ → Bool} {w w' : List Float} (p : Signs s w w') where
 -- what a penalty says that has no fault
 pub alpha-legal : (p : Penalty) → penaltyFault p ≡ none → alphaLegal (alphaOf p) ≡ true
 unfolding penaltyFault
-alpha-legal p h = spared (alphaLegal (alphaOf p)) 2 _ h .0
+alpha-legal p h = sparedAt (alphaLegal (alphaOf p)) 2 5 _ h .0
 
 second-legal : (p : Penalty) → penaltyFault p ≡ none → secondLegal p ≡ true
 unfolding penaltyFault
-second-legal p h = spared (secondLegal p) 2 none (spared (alphaLegal (alphaOf p)) 2 _ h .1) .0
+second-legal p h = sparedAt (secondLegal p) 2 6 none (sparedAt (alphaLegal (alphaOf p)) 2 5 _ h .1) .0
 
 pub ratio-legal : (alpha r : Float) → penaltyFault (L1PlusL2 alpha r) ≡ none → ratioLegal r ≡ true
 unfolding secondLegal

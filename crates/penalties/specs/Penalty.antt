@@ -6,7 +6,7 @@ use lib.ListN.{length}
 use lib.Ieee.{Float, neg, lt, le, eq}
 use Rattle.doubles.specs.Num.{_⊕_, _⊖_, _⊗_, _⊘_, #0, #½, #1, #2, at, pick, _and_, abs, signum, finite}
 use Rattle.doubles.specs.Steps.{sum}
-use Rattle.doubles.specs.Answer.{Outcome, Fault, none, unless, after}
+use Rattle.doubles.specs.Answer.{Outcome, Fault, none, unlessAt, unless, after}
 use Rattle.penalties.specs.Soft.{soft}
 use Rattle.penalties.specs.declared.separable.Penalty.{Penalty}
 use Rattle.penalties.specs.declared.separable.Penalty.the-variants.{L1, L1PlusL2, MCP}
@@ -35,11 +35,11 @@ secondLegal (L1 alpha) = true
 secondLegal (L1PlusL2 alpha r) = ratioLegal r
 secondLegal (MCP alpha gamma) = gammaLegal gamma
 
--- 2: alpha is tested first, then the second number
+-- 2, request 1: alpha is the setting 5, the second number the setting 6
 unfoldable pub penaltyFault : Penalty → Fault
 penaltyFault p =
-    unless (alphaLegal (alphaOf p)) 2
-    (unless (secondLegal p) 2
+    unlessAt (alphaLegal (alphaOf p)) 2 5
+    (unlessAt (secondLegal p) 2 6
     none)
 
 -- ---- value

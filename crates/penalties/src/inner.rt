@@ -52,15 +52,15 @@ fn alpha_of(p: Penalty) -> f64
     }
 }
 
-// 2, where a number of the penalty is outside its range: alpha first.
+// 2, where a number of the penalty is outside its range: alpha, setting 5, then the second number, setting 6.
 pub fn check_range(p: Penalty) -> Verdict
     ensures { λ r. ⌜ verdictOf r ≡ pen.penaltyFault p ⌝ }
 {
     if alpha_in_range(alpha_of(p)) {} else {
-        return refused(2, 0);
+        return refused(2, 5);
     }
     if second_in_range(p) {} else {
-        return refused(2, 0);
+        return refused(2, 6);
     }
     Verdict::Fine
 }

@@ -4,7 +4,7 @@ use mathlib.Core.Bool.{not}
 use lib.Dec.{eqb}
 use lib.Ieee.{Float, nan}
 use Rattle.doubles.specs.Num.{pick}
-use Rattle.doubles.specs.Answer.{Outcome, refused, answered, Fault}
+use Rattle.doubles.specs.Answer.{Outcome, refused, answered}
 use Rattle.penalties.specs.Penalty.{prox}
 use Rattle.penalties.specs.declared.separable.Penalty.{Penalty}
 use Rattle.penalties.specs.declared.separable.Penalty.the-variants.{L1, L1PlusL2, MCP}
@@ -13,23 +13,28 @@ use Rattle.definition.specs.Call.{Lent, fitCall, fitLeft}
 use Rattle.definition.specs.declared.Settings.{Settings}
 use Rattle.definition.specs.declared.Report.{Report}
 
--- ---- a fault as two numbers: document 01's number and place, both 0 where there is none
-abbrev pub numberOfFault : Fault → ℕ
-numberOfFault (answered u) = 0
-numberOfFault (refused number place) = number
+-- ---- an outcome as plain numbers, whatever is answered: the refusal's number and place, both 0 where there is none
+abbrev pub numberIn : {A : Type 0} → Outcome A → ℕ
+numberIn (refused number place) = number
+numberIn (answered a) = 0
 
-abbrev pub placeOfFault : Fault → ℕ
-placeOfFault (answered u) = 0
-placeOfFault (refused number place) = place
+abbrev pub placeIn : {A : Type 0} → Outcome A → ℕ
+placeIn (refused number place) = place
+placeIn (answered a) = 0
+
+-- and the answer where a caller's number was: refused, it is what it was
+abbrev pub kept : {A : Type 0} → Outcome A → A → A
+kept (refused number place) old = old
+kept (answered a) old = a
 
 -- ---- the settings: "penalty 0 L1/1 L1PlusL2/2 MCP"; "second number (.. ignored for L1)"
--- any other code stands for a penalty whose alpha is in no range, and so for refusal 2
-abbrev pub noPenalty : Penalty
-noPenalty = L1 nan
+-- any other code stands for a penalty with the same alpha and a second number that is in no range, and so for 2 at 6, behind alpha's 2 at 5
+abbrev pub noPenalty : Float → Penalty
+noPenalty alpha = L1PlusL2 alpha nan
 
 unfoldable pub codedPenalty : ℕ → Float → Float → Penalty
 codedPenalty code alpha second =
-    pick (eqb code 0) (L1 alpha) (pick (eqb code 1) (L1PlusL2 alpha second) (pick (eqb code 2) (MCP alpha second) noPenalty))
+    pick (eqb code 0) (L1 alpha) (pick (eqb code 1) (L1PlusL2 alpha second) (pick (eqb code 2) (MCP alpha second) (noPenalty alpha)))
 
 -- the prox of the penalty with this code; any other code's is NaN (proofs/Laws/Codes: no-prox)
 unfoldable pub codedProx : ℕ → Float → Float → Float → Float → Float
@@ -47,20 +52,7 @@ codedSettings code alpha second tolerance start iterations epochs extrapolate de
   depth = depth;
 }
 
--- ---- the answer of a fit as numbers: the refusal's number and place, both 0 where there is none
-abbrev pub numberOfFit : Outcome Report → ℕ
-numberOfFit (refused number place) = number
-numberOfFit (answered r) = 0
-
-abbrev pub placeOfFit : Outcome Report → ℕ
-placeOfFit (refused number place) = place
-placeOfFit (answered r) = 0
-
--- the report's numbers are lent too: refused, they are what they were
-abbrev pub reported : Outcome Report → Report → Report
-reported (refused number place) old = old
-reported (answered r) old = r
-
+-- ---- the report's numbers, which are lent too
 abbrev pub report : ℕ → Float → ℕ → ℕ → ℕ → Report
 report status violation iterations epochs extrapolations =
     record { status = status; violation = violation; iterations = iterations; epochs = epochs; extrapolations = extrapolations }
@@ -79,4 +71,4 @@ reply number place r b = record { number = number; place = place; report = r; le
 unfoldable pub fitReply : Given → Settings → Lent → Report → Reply
 fitReply g S b old =
     let done = fitCall g S b in
-    reply (numberOfFit done) (placeOfFit done) (reported done old) (fitLeft g S b)
+    reply (numberIn done) (placeIn done) (kept done old) (fitLeft g S b)

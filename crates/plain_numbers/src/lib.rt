@@ -1,7 +1,6 @@
-// Settings, refusals, reports and the size of a working set as plain numbers, for the calls from other languages.
+// Settings, penalties, refusals, reports, doubles and the size of a working set as plain numbers, for the calls from other languages.
 ghost use mathlib.Core.Path.{_≡_};
-ghost use Prim.Native.Nat.{ℕ};
-ghost use Rattle.doubles.specs.Answer.{Fault, verdictOf, after, left};
+ghost use Rattle.doubles.specs.Answer.{numberOf, verdictOf};
 ghost use Rattle.designs.specs.Design as def;
 ghost use Rattle.definition.specs.Call as call;
 ghost use Rattle.worksets.specs.Call as sets;
@@ -10,6 +9,7 @@ use definition::Fit;
 use definition::Settings;
 use designs::Layout;
 use designs::Shape;
+use doubles::Number;
 use doubles::Verdict;
 use penalties::separable::Penalty;
 use penalties::separable::prox;
@@ -36,7 +36,7 @@ pub fn csc(n: usize, p: usize) -> Shape
     }
 }
 
-// A code that is no penalty's gives one that the settings' test refuses: its alpha is NaN.
+// A code that is no penalty's gives one whose second number is in no range: the settings' test refuses it with 2 at 6, where alpha is in its range.
 pub fn penalty_of(code: u32, alpha: f64, second: f64) -> Penalty
     ensures { λ r. ⌜ r ≡ codes.codedPenalty code alpha second ⌝ }
 {
@@ -55,7 +55,10 @@ pub fn penalty_of(code: u32, alpha: f64, second: f64) -> Penalty
             gamma: second,
         };
     }
-    Penalty::L1 { alpha: 0.0 / 0.0 }
+    Penalty::L1PlusL2 {
+        alpha: alpha,
+        l1_ratio: 0.0 / 0.0,
+    }
 }
 
 // A code that is no penalty's is answered with NaN.
@@ -101,7 +104,7 @@ pub fn tell(
 ) -> u32
     ensures { λ r. ⌜ (let old = codes.report (now (status .entry)) (now (violation .entry)) (now (sets .entry)) (now (passes .entry)) (now (accepted .entry)) in
         let new = codes.report (now (status .exit)) (now (violation .exit)) (now (sets .exit)) (now (passes .exit)) (now (accepted .exit)) in
-        (r ≡ codes.numberOfFit (call.fitOf done)) × (now (place .exit) ≡ codes.placeOfFit (call.fitOf done)) × (new ≡ codes.reported (call.fitOf done) old)) ⌝ }
+        (r ≡ codes.numberIn (call.fitOf done)) × (now (place .exit) ≡ codes.placeIn (call.fitOf done)) × (new ≡ codes.kept (call.fitOf done) old)) ⌝ }
 {
     match done {
         Fit::Refused(refusal) => {
@@ -122,7 +125,7 @@ pub fn tell(
 
 // A verdict in the caller's numbers.
 pub fn tell_verdict(verdict: Verdict, place: &mut usize) -> u32
-    ensures { λ r. ⌜ (r ≡ codes.numberOfFault (verdictOf verdict)) × (now (place .exit) ≡ codes.placeOfFault (verdictOf verdict)) ⌝ }
+    ensures { λ r. ⌜ (r ≡ codes.numberIn (verdictOf verdict)) × (now (place .exit) ≡ codes.placeIn (verdictOf verdict)) ⌝ }
 {
     match verdict {
         Verdict::Fine => {
@@ -136,10 +139,10 @@ pub fn tell_verdict(verdict: Verdict, place: &mut usize) -> u32
     }
 }
 
-// A working set's answer in the caller's numbers, whichever fault and size it stands for. A refusal does not write the size.
+// A working set's answer in the caller's numbers. A refusal does not write the size.
 pub fn tell_size(answer: WorkingSet, size: &mut usize, place: &mut usize) -> u32
-    ensures { λ r. ⌜ ((fault : Fault) (count : ℕ) → sets.sizeOf answer ≡ after fault count
-        → (r ≡ codes.numberOfFault fault) × (now (place .exit) ≡ codes.placeOfFault fault) × (now (size .exit) ≡ left fault count (now (size .entry)))) ⌝ }
+    ensures { λ r. ⌜ (r ≡ codes.numberIn (sets.sizeOf answer)) × (now (place .exit) ≡ codes.placeIn (sets.sizeOf answer))
+        × (now (size .exit) ≡ codes.kept (sets.sizeOf answer) (now (size .entry))) ⌝ }
 {
     match answer {
         WorkingSet::Refused(why) => {
@@ -148,6 +151,24 @@ pub fn tell_size(answer: WorkingSet, size: &mut usize, place: &mut usize) -> u32
         }
         WorkingSet::Size(count) => {
             *size = count;
+            *place = 0;
+            0
+        }
+    }
+}
+
+// A double's answer in the caller's numbers. A refusal does not write the double.
+pub fn tell_number(answer: Number, number: &mut f64, place: &mut usize) -> u32
+    ensures { λ r. ⌜ (r ≡ codes.numberIn (numberOf answer)) × (now (place .exit) ≡ codes.placeIn (numberOf answer))
+        × (now (number .exit) ≡ codes.kept (numberOf answer) (now (number .entry))) ⌝ }
+{
+    match answer {
+        Number::Refused(reason) => {
+            *place = reason.place;
+            reason.number
+        }
+        Number::Is(x) => {
+            *number = x;
             *place = 0;
             0
         }

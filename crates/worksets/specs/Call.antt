@@ -9,7 +9,7 @@ use Rattle.doubles.specs.Num.{#0, at, finite, _and_, _or_}
 use Rattle.doubles.specs.Buffer.{put}
 use Rattle.doubles.specs.Answer.{Outcome, refused, answered}
 use Rattle.designs.specs.Search.{firstOf, mark}
-use Rattle.doubles.specs.Answer.{Fault, none, unless, after, left}
+use Rattle.doubles.specs.Answer.{Fault, none, unlessAt, unless, after, left}
 use Rattle.designs.specs.Checks.{told}
 use Rattle.definition.specs.WorkingSet.{isZero, size, workingSet, padded}
 use Rattle.worksets.specs.declared.WorkingSet.{WorkingSet}
@@ -24,11 +24,11 @@ sizeOf (WorkingSet.Size n) = answered n
 unfoldable pub badViolation : List Float → List Float → ℕ → Bool
 badViolation v w j = isZero w j and (not (finite (at v j)) or lt (at v j) #0)
 
--- 1, then 2 ("refuses a start above p"; 0 is outside the range too), 3, 8 with the first such feature
+-- 1, then 2 ("refuses a start above p"; 0 is outside the range too; request 1: start is the setting 2), 3, 8 with the first such feature
 unfoldable pub wsFault : List Float → List Float → ℕ → List ℕ → Fault
 wsFault v w start indices =
     unless (leb 1 (length w) and leb (length w) 8192 and eqb (length v) (length w)) 1
-    (unless (leb 1 start and leb start (length w)) 2
+    (unlessAt (leb 1 start and leb start (length w)) 2 2
     (unless (leb (length w) (length indices)) 3
     (told 8 (firstOf (λ j. mark (badViolation v w j) j) (length w)) none)))
 

@@ -37,7 +37,7 @@ pub fn construct_ws_from_kkt(
         return refused(1, 0);
     }
     if inner::start_in_range(start, p) {} else {
-        return refused(2, 0);
+        return refused(2, 2);
     }
     if p <= indices.len() {} else {
         return refused(3, 0);

@@ -1,27 +1,12 @@
 -- `check_settings`: one test after the other; a test that was passed leaves the definition from the next one on. Assumes nothing.
 use mathlib.Core.Path.{_≡_, sym, _∙_}
-use lib.Dec.{leb}
 use borrow.Author.Tests.{le-leb, lt-leb}
-use Rattle.doubles.specs.Answer.{Fault, unless}
-use Rattle.penalties.specs.Penalty.{alphaLegal, penaltyFault}
-use Rattle.definition.specs.Call.{startLegal, depthLegal, settingsFault}
+use Rattle.definition.specs.Call.{settingsFault}
 use Rattle.definition.specs.declared.Settings.{Settings}
+use Rattle.definition.proofs.Laws.Settings.{from-epochs, from-start, from-depth, from-tolerance}
 use borrow.Author.Needs.{needs}
 use Rattle.decisions.proofs.check_settings.Statement.{statement}
 use Rattle.decisions.proofs.check_settings.Tie as tie
-
--- ---- the definition from a setting on
-abbrev from-tolerance : Settings → Fault
-from-tolerance S = unless (alphaLegal (S .tolerance)) 2 (penaltyFault (S .penalty))
-
-abbrev from-depth : Settings → Fault
-from-depth S = unless (depthLegal S) 2 (from-tolerance S)
-
-abbrev from-start : Settings → Fault
-from-start S = unless (startLegal S) 2 (from-depth S)
-
-abbrev from-epochs : Settings → Fault
-from-epochs S = unless (leb (S .epochs) 100000) 2 (from-start S)
 
 -- ---- the places behind a test that was passed, each from the one behind it
 abbrev settings : tie.Else1 → Settings

@@ -3,7 +3,7 @@ use mathlib.Core.Path.{_≡_}
 use lib.Dec.{leb, lit≤}
 use Rattle.doubles.specs.Num.{_and_}
 use Rattle.doubles.specs.Answer.{none, unless, _then_}
-use Rattle.doubles.proofs.Laws.Verdict.{AtMost, none-most, unless-most, then-most, spared, then-none}
+use Rattle.doubles.proofs.Laws.Verdict.{AtMost, none-most, unlessAt-most, unless-most, then-most, spared, then-none}
 use Rattle.penalties.specs.Penalty.{alphaLegal, alphaOf, secondLegal, penaltyFault}
 use Rattle.designs.specs.Given.{Given}
 use Rattle.designs.specs.Checks.{sizes, sizedFault, targetsFit}
@@ -16,13 +16,13 @@ use Rattle.definition.specs.declared.Settings.{Settings}
 settings-most : (S : Settings) → AtMost 6 (settingsFault S)
 unfolding settingsFault penaltyFault
 settings-most S =
-    unless-most 2 (lit≤ tt) (leb (S .iterations) 1000)
-    (unless-most 2 (lit≤ tt) (leb (S .epochs) 100000)
-    (unless-most 2 (lit≤ tt) (startLegal S)
-    (unless-most 2 (lit≤ tt) (depthLegal S)
-    (unless-most 2 (lit≤ tt) (alphaLegal (S .tolerance))
-    (unless-most 2 (lit≤ tt) (alphaLegal (alphaOf (S .penalty)))
-    (unless-most 2 (lit≤ tt) (secondLegal (S .penalty)) (none-most 6)))))))
+    unlessAt-most 2 0 (lit≤ tt) (leb (S .iterations) 1000)
+    (unlessAt-most 2 1 (lit≤ tt) (leb (S .epochs) 100000)
+    (unlessAt-most 2 2 (lit≤ tt) (startLegal S)
+    (unlessAt-most 2 3 (lit≤ tt) (depthLegal S)
+    (unlessAt-most 2 4 (lit≤ tt) (alphaLegal (S .tolerance))
+    (unlessAt-most 2 5 (lit≤ tt) (alphaLegal (alphaOf (S .penalty)))
+    (unlessAt-most 2 6 (lit≤ tt) (secondLegal (S .penalty)) (none-most 6)))))))
 
 module _ (g : Given) (S : Settings) (b : Lent) where
   pub fault-most : AtMost 6 (fitFault g S b)

@@ -2,16 +2,19 @@
 use mathlib.Core.Path.{_≡_, refl, sym, ap, _∙_}
 use mathlib.Core.Bool.{Bool, true, false}
 use Prim.Native.Nat.{ℕ, _≤_}
-use Rattle.doubles.specs.Answer.{Outcome, refused, answered, Fault, none, verdictOf, unless, _then_, after, left}
+use Rattle.doubles.specs.Answer.{Outcome, refused, answered, Fault, none, verdictOf, unlessAt, unless, _then_, after, left}
 use Rattle.doubles.specs.declared.Refusal.{Refusal}
 use Rattle.doubles.specs.declared.Verdict.{Verdict}
 use Rattle.doubles.specs.declared.Verdict.the-variants as Verdict
 use Rattle.doubles.proofs.Laws.Ends.{refused≢answered}
 
 -- ---- a chain of tests that found nothing
+pub sparedAt : (b : Bool) (number place : ℕ) (f : Fault) → unlessAt b number place f ≡ none → (b ≡ true) × (f ≡ none)
+sparedAt true number place f e = (refl, e)
+sparedAt false number place f e = absurd (refused≢answered e)
+
 pub spared : (b : Bool) (number : ℕ) (f : Fault) → unless b number f ≡ none → (b ≡ true) × (f ≡ none)
-spared true number f e = (refl, e)
-spared false number f e = absurd (refused≢answered e)
+spared b number f e = sparedAt b number 0 f e
 
 pub then-none : (f g : Fault) → (f then g) ≡ none → (f ≡ none) × (g ≡ none)
 then-none (answered u) g e = (refl, e)
@@ -47,9 +50,12 @@ none-most m = record { most = λ number place e. absurd (refused≢answered (sym
 pub refused-most : {m number : ℕ} → number ≤ m → (place : ℕ) → AtMost m (refused number place)
 refused-most {m} {number} h place = record { most = λ n i e. (let q : number ≡ n = cc in rw (← q) h) }
 
+pub unlessAt-most : {m : ℕ} (number place : ℕ) → number ≤ m → {f : Fault} (b : Bool) → AtMost m f → AtMost m (unlessAt b number place f)
+unlessAt-most number place h true k = k
+unlessAt-most number place h false k = refused-most h place
+
 pub unless-most : {m : ℕ} (number : ℕ) → number ≤ m → {f : Fault} (b : Bool) → AtMost m f → AtMost m (unless b number f)
-unless-most number h true k = k
-unless-most number h false k = refused-most h 0
+unless-most number h b k = unlessAt-most number 0 h b k
 
 pub then-most : {m : ℕ} (f : Fault) {g : Fault} → AtMost m f → AtMost m g → AtMost m (f then g)
 then-most (answered u) a b = b

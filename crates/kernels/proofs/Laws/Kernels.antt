@@ -19,7 +19,7 @@ use Rattle.designs.specs.Design.{design, denseShape, nothing, laid, dot, moved}
 use Rattle.designs.specs.Inner.Sound.{Held, Whole}
 use Rattle.designs.specs.declared.Shape.{Shape}
 use Rattle.designs.proofs.Laws.Passed.{sized, dense-values}
-use Rattle.plain_numbers.specs.Codes.{numberOfFault, placeOfFault}
+use Rattle.plain_numbers.specs.Codes.{numberIn, placeIn}
 use Rattle.plain_numbers.proofs.Laws.Codes.{same-told}
 use Rattle.kernels.specs.Kernels.{kernelFault, productLeft, updateLeft}
 
@@ -49,10 +49,10 @@ module _ {n p : ℕ} (values : List Float) (column : ℕ) {s : Shape} (hs : s �
 
 -- the verdict told, and what is left: behind tests that pass, what holds there; refused, what stood there
 module _ (v : Verdict) {f : Fault} {number place : ℕ} (tested : verdictOf v ≡ f)
-    (told : (number ≡ numberOfFault (verdictOf v)) × (place ≡ placeOfFault (verdictOf v))) where
-  pub passed-told : {A : Type 0} → v ≡ Verdict.Fine → (none ≡ f → A) → (number ≡ numberOfFault f) × (place ≡ placeOfFault f) × A
+    (told : (number ≡ numberIn (verdictOf v)) × (place ≡ placeIn (verdictOf v))) where
+  pub passed-told : {A : Type 0} → v ≡ Verdict.Fine → (none ≡ f → A) → (number ≡ numberIn f) × (place ≡ placeIn f) × A
   passed-told h holds = let t = same-told tested told in (t .0, t .1, holds (pass v tested h))
 
   pub refused-told : {A : Type 0} (new old : A) (r : Refusal) → v ≡ Verdict.Refused r
-      → (number ≡ numberOfFault f) × (place ≡ placeOfFault f) × (old ≡ left f new old)
+      → (number ≡ numberIn f) × (place ≡ placeIn f) × (old ≡ left f new old)
   refused-told new old r h = let t = same-told tested told in (t .0, t .1, stop-left v tested new old r h)

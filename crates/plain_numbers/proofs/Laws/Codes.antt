@@ -1,75 +1,87 @@
--- A fit's answer in numbers, by its cases; and a code that is no penalty's, which every test in front of the penalty's refuses with the same number.
+-- A fit's answer in numbers, by its cases; and a code that is no penalty's: it is refused behind every other setting, and its prox is NaN.
 -- Assumes nothing.
-use mathlib.Core.Path.{_≡_, refl}
+use mathlib.Core.Path.{_≡_, refl, sym}
 use mathlib.Core.Bool.{Bool, true, false}
 use mathlib.Core.List.{List}
 use Prim.Native.Nat.{ℕ, _<_}
 use native.Mathlib.Omega.{arith}
 use borrow.Author.Tests.{ne-eqb}
 use lib.Dec.{leb}
-use lib.Ieee.{Float, nan}
-use Rattle.doubles.specs.Num.{_and_, finite}
-use Rattle.doubles.specs.Answer.{Outcome, refused, Fault, unless}
+use lib.Ieee.{Float, nan, lt, le, eq, ofBits}
+use Rattle.doubles.specs.Num.{_and_}
+use Rattle.doubles.specs.Answer.{Outcome, refused, answered, Fault, none, unlessAt, _then_}
 use Rattle.doubles.specs.declared.Refusal.{Refusal}
-use Rattle.penalties.specs.Penalty.{alphaLegal, penaltyFault}
+use Rattle.penalties.specs.Penalty.{alphaLegal, ratioLegal, secondLegal, penaltyFault}
 use Rattle.penalties.proofs.Numbers.{prox-of-nan}
 use Rattle.designs.specs.Given.{given}
 use Rattle.designs.specs.declared.Shape.{Shape}
-use Rattle.definition.specs.Call.{Lent, fitCall, fitLeft, fitOf, settingsFault, startLegal, depthLegal}
+use Rattle.definition.specs.Call.{Lent, fitCall, fitLeft, fitOf, startLegal, depthLegal, settingsFault}
 use Rattle.definition.specs.declared.Fit.{Fit}
 use Rattle.definition.specs.declared.Fit.the-variants as Fit
 use Rattle.definition.specs.declared.Report.{Report}
 use Rattle.definition.specs.declared.Settings.{Settings}
-use Rattle.plain_numbers.specs.Codes.{numberOfFault, placeOfFault, numberOfFit, placeOfFit, reported, codedPenalty, codedProx, codedSettings}
+use Rattle.plain_numbers.specs.Codes.{numberIn, placeIn, kept, noPenalty, codedPenalty, codedProx, codedSettings}
 use Rattle.plain_numbers.specs.Codes.{reply, fitReply}
 
 -- ---- the arms of a match on the answer
 pub refused-told : (d : Fit) (r : Refusal) (old : Report) → d ≡ Fit.Refused r
-    → (r .number ≡ numberOfFit (fitOf d)) × (r .place ≡ placeOfFit (fitOf d)) × (old ≡ reported (fitOf d) old)
+    → (r .number ≡ numberIn (fitOf d)) × (r .place ≡ placeIn (fitOf d)) × (old ≡ kept (fitOf d) old)
 refused-told d r old h = rw h (refl, refl, refl)
 
-pub done-told : (d : Fit) (r old : Report) → d ≡ Fit.Done r → (0 ≡ numberOfFit (fitOf d)) × (0 ≡ placeOfFit (fitOf d)) × (r ≡ reported (fitOf d) old)
+pub done-told : (d : Fit) (r old : Report) → d ≡ Fit.Done r → (0 ≡ numberIn (fitOf d)) × (0 ≡ placeIn (fitOf d)) × (r ≡ kept (fitOf d) old)
 done-told d r old h = rw h (refl, refl, refl)
 
 -- ---- a fault in numbers is that of the equal one
-pub same-told : {a f : Fault} {number place : ℕ} → a ≡ f → (number ≡ numberOfFault a) × (place ≡ placeOfFault a)
-    → (number ≡ numberOfFault f) × (place ≡ placeOfFault f)
+pub same-told : {a f : Fault} {number place : ℕ} → a ≡ f → (number ≡ numberIn a) × (place ≡ placeIn a)
+    → (number ≡ numberIn f) × (place ≡ placeIn f)
 same-told e h = rw (← e) h
 
 -- ---- a call with a shape s and settings S that are those promised: its answer told, and what it left, are the reply
 module _ {s s' : Shape} (starts rows : List ℕ) (values y : List Float) {S S' : Settings} (b : Lent) (hs : s ≡ s') (hS : S ≡ S') where
   pub called : {o : Outcome Report} {l : Lent} {number place : ℕ} {new : Report} (old : Report)
       → (o ≡ fitCall (given s starts rows values y) S b) × (l ≡ fitLeft (given s starts rows values y) S b)
-      → (number ≡ numberOfFit o) × (place ≡ placeOfFit o) × (new ≡ reported o old)
+      → (number ≡ numberIn o) × (place ≡ placeIn o) × (new ≡ kept o old)
       → reply number place new l ≡ fitReply (given s' starts rows values y) S' b old
   unfolding fitReply
   called old done told = rw (← hs, ← hS, ← done .0, ← done .1, told .0, told .1, told .2)
 
--- ---- a code that is no penalty's: 2 in its order
-no-penalty : (code : ℕ) (alpha second : Float) → 2 < code → penaltyFault (codedPenalty code alpha second) ≡ refused 2 0
-unfolding codedPenalty penaltyFault alphaLegal finite _and_
-no-penalty code alpha second h =
-    rw (ne-eqb code 0 (λ z. omega (arith, z)), ne-eqb code 1 (λ z. omega (arith, z)), ne-eqb code 2 (λ z. omega (arith, z)))
+-- ---- what follows a chain of tests follows its last
+last-then : (b : Bool) (g : Fault) → unlessAt b 2 5 g ≡ (unlessAt b 2 5 none then g)
+last-then true g = refl
+last-then false g = refl
 
--- and NaN as a prox: its threshold is one
-pub no-prox : (code : ℕ) (alpha second v step : Float) → 2 < code → codedProx code alpha second v step ≡ nan
-unfolding codedProx codedPenalty
-no-prox code alpha second v step h =
-    rw (ne-eqb code 0 (λ z. omega (arith, z)), ne-eqb code 1 (λ z. omega (arith, z)), ne-eqb code 2 (λ z. omega (arith, z))) (prox-of-nan v step)
+tests-then : (a b c d e : Bool) (f g : Fault)
+    → (unlessAt a 2 0 (unlessAt b 2 1 (unlessAt c 2 2 (unlessAt d 2 3 (unlessAt e 2 4 f)))) then g)
+    ≡ unlessAt a 2 0 (unlessAt b 2 1 (unlessAt c 2 2 (unlessAt d 2 3 (unlessAt e 2 4 (f then g)))))
+tests-then false b c d e f g = refl
+tests-then true false c d e f g = refl
+tests-then true true false d e f g = refl
+tests-then true true true false e f g = refl
+tests-then true true true true false f g = refl
+tests-then true true true true true f g = refl
 
--- a test that gives 2, in front of what gives 2
-still : (b : Bool) {f : Fault} → f ≡ refused 2 0 → unless b 2 f ≡ refused 2 0
-still true h = h
-still false h = refl
+-- ---- a code that is no penalty's
+module _ (code : ℕ) (alpha second : Float) (unknown : 2 < code) where
+  no-penalty : codedPenalty code alpha second ≡ noPenalty alpha
+  unfolding codedPenalty
+  no-penalty = rw (ne-eqb code 0 (λ z. omega (arith, z)), ne-eqb code 1 (λ z. omega (arith, z)), ne-eqb code 2 (λ z. omega (arith, z)))
 
--- so the settings' tests give 2, whichever refuses
-last-refused : (S : Settings) → penaltyFault (S .penalty) ≡ refused 2 0 → settingsFault S ≡ refused 2 0
-unfolding settingsFault
-last-refused S h =
-    let depth = still (depthLegal S) (still (alphaLegal (S .tolerance)) h) in
-    still (leb (S .iterations) 1000) (still (leb (S .epochs) 100000) (still (startLegal S) depth))
+  -- its prox is NaN
+  pub no-prox : (v step : Float) → codedProx code alpha second v step ≡ nan
+  unfolding codedProx
+  no-prox v step = rw no-penalty (prox-of-nan alpha v step)
 
-pub no-settings : (code : ℕ) (alpha second tolerance : Float) (start iterations epochs extrapolate depth : ℕ) → 2 < code
-    → settingsFault (codedSettings code alpha second tolerance start iterations epochs extrapolate depth) ≡ refused 2 0
-unfolding codedSettings
-no-settings code alpha second tolerance start iterations epochs extrapolate depth h = last-refused _ (no-penalty code alpha second h)
+  -- it is refused as L1 is with the same alpha, and where that is not, with 2 at 6
+  pub no-range : penaltyFault (codedPenalty code alpha second) ≡ (penaltyFault (codedPenalty 0 alpha second) then refused 2 6)
+  unfolding penaltyFault secondLegal ratioLegal le lt eq ofBits _and_
+  no-range = rw no-penalty (unfold codedPenalty in last-then (alphaLegal alpha) (refused 2 6))
+
+  pub no-settings : (tolerance : Float) (start iterations epochs extrapolate depth : ℕ)
+      → settingsFault (codedSettings code alpha second tolerance start iterations epochs extrapolate depth)
+      ≡ (settingsFault (codedSettings 0 alpha second tolerance start iterations epochs extrapolate depth) then refused 2 6)
+  unfolding codedSettings settingsFault startLegal depthLegal
+  no-settings tolerance start iterations epochs extrapolate depth =
+      let as-l1 = codedSettings 0 alpha second tolerance start iterations epochs extrapolate depth in
+      rw no-range
+      (sym (tests-then (leb iterations 1000) (leb epochs 100000) (startLegal as-l1) (depthLegal as-l1) (alphaLegal tolerance)
+      (penaltyFault (codedPenalty 0 alpha second)) (refused 2 6)))

@@ -65,7 +65,7 @@ unfolding wsFault
 returns-2 c =
     let at-range = c .before .before in
     let at-lengths = at-range .before .before in
-    refused-as _ _ _ _ _ 2 0 (c .refused2 .ensures)
+    refused-as _ _ _ _ _ 2 2 (c .refused2 .ensures)
     (rw (← at-lengths .lengths-agree .ensures, at-range .before .if1 .taken, ← at-range .start-in-range .ensures, c .before .if2 .left))
 
 refused-requires-3 : tie.Need-refused-requires-3
