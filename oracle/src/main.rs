@@ -26,7 +26,7 @@ use std::process::ExitCode;
 
 const USAGE: &str = "usage: oracle [--without REQUEST].. COMMAND, where a command is ask WORD.. | answer | \
     list leaves|designs|runs|tiles SEED COUNT | tile [published] | old | \
-    files SEED COUNT | damage SEED COUNT | large [quick] | check";
+    files SEED COUNT [FAMILY..] | damage SEED COUNT [FAMILY..] | large [quick] | check";
 
 fn decimal(word: &str) -> Result<u64, String> {
     let number = word.parse::<u64>();
@@ -68,11 +68,12 @@ fn run(arguments: &[String]) -> Result<(), String> {
         ["tile"] => files::tile(Variant::Loops),
         ["old"] => old::tile(),
         ["tile", "published"] => files::tile(Variant::Published),
-        ["files", seed, count] => {
-            files::write("files", &files::FILES, decimal(seed)?, decimal(count)?)
-        }
-        ["damage", seed, count] => {
-            files::write("damage", &files::DAMAGES, decimal(seed)?, decimal(count)?)
+        [command @ ("files" | "damage"), seed, count, ref names @ ..] => {
+            let families: &[files::Family] = match command {
+                "files" => &files::FILES,
+                _ => &files::DAMAGES,
+            };
+            files::write(command, families, decimal(seed)?, decimal(count)?, names)
         }
         ["large"] => large::write(false),
         ["large", "quick"] => large::write(true),

@@ -1,5 +1,5 @@
-// One record: a code, the inputs of a call and the answers that the oracle had. The first `n` of the words are the record. Codes 1 and 2, the soft
-// threshold and the prox, are replayed through the exports (replay/).
+// One record: a code, the inputs of a call and the answers that the oracle had. The first `n` of the words are the record. Codes 1 to 4,
+// the penalties' public calls, are replayed through the exports (replay/).
 ghost use mathlib.Core.Path.{_≡_};
 ghost use Prim.Native.Nat.{_+_, _≤_};
 ghost use lib.ListN.{length, take};
@@ -8,33 +8,21 @@ use elimination::helpers;
 use elimination::helpers::Ending;
 use elimination::helpers::Solution;
 use list_reader::Words;
-use list_reader::outcomes::same_number;
 use list_reader::outcomes::same_refusal;
 use list_reader::parts::penalty_at;
 use list_reader::progress::Compared;
 use list_reader::progress::judge;
 use list_reader::same;
 use penalties::inner;
-use penalties::separable;
 
 pub fn replay(words: &Words, n: usize) -> Compared {
     let code = words[0];
     match code {
-        3 => distance(words, n),
-        4 => value(words, n),
         5 => solve(words, n),
         6 => inner_violation(words, n),
         7 => inner_value(words, n),
         _ => Compared::Bad,
     }
-}
-
-fn distance(words: &Words, n: usize) -> Compared {
-    if n != 9 || 2 < words[1] {
-        return Compared::Bad;
-    }
-    let r = separable::subdiff_distance(penalty_at(words, 1), double(words[4]), double(words[5]));
-    judge(same_number(r, words[6], words[7], words[8]))
 }
 
 fn inner_violation(words: &Words, n: usize) -> Compared {
@@ -59,19 +47,6 @@ fn weights(words: &Words, count: usize) -> [f64; 64]
         i += 1;
     }
     w
-}
-
-fn value(words: &Words, n: usize) -> Compared {
-    if 64 < words[4] || 2 < words[1] {
-        return Compared::Bad;
-    }
-    let count = words[4] as usize;
-    if n != count + 8 {
-        return Compared::Bad;
-    }
-    let w = weights(words, count);
-    let r = separable::value(penalty_at(words, 1), &w[..count]);
-    judge(same_number(r, words[count + 5], words[count + 6], words[count + 7]))
 }
 
 fn inner_value(words: &Words, n: usize) -> Compared {

@@ -87,6 +87,25 @@ pub fn two_faults(random: &mut Random) -> File {
     spoiled_file(spoiled(draw, random))
 }
 
+/// A fault of each of these kinds.
+fn faults_as(wanted: &[[runs::Wanted; 2]], random: &mut Random) -> File {
+    let faults = runs::faults();
+    let draw = |random: &mut Random| {
+        let wanted = random.pick(wanted);
+        runs::spoiled_as(wanted, &faults, random)
+    };
+    spoiled_file(spoiled(draw, random))
+}
+
+pub fn two_settings(random: &mut Random) -> File {
+    faults_as(&runs::setting_pairs(), random)
+}
+
+/// A wrong setting beside another refusal. (Of 3 nothing is left in a file.)
+pub fn setting_beside(random: &mut Random) -> File {
+    faults_as(&runs::settings_beside(), random)
+}
+
 /// Fields of a file whose contents are refused.
 pub fn spoiled_fields(layout: Layout, random: &mut Random) -> Vec<Field> {
     let faults = runs::faults();

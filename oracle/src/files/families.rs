@@ -22,7 +22,7 @@ macro_rules! broken {
     };
 }
 
-pub const FILES: [Family; 58] = [
+pub const FILES: [Family; 60] = [
     family("l1-dense", 50, |random| sound::run(L1, Dense, random)),
     family("l1-csc", 50, |random| sound::run(L1, Csc, random)),
     family("l1plusl2-dense", 50, |random| {
@@ -61,6 +61,8 @@ pub const FILES: [Family; 58] = [
     family("large-product", 3, large::large_product),
     family("lengths", 15, |random| contents::fault(1, random)),
     family("settings", 25, |random| contents::fault(2, random)),
+    family("two-settings", 25, contents::two_settings),
+    family("setting-beside", 20, contents::setting_beside),
     family("starts", 20, |random| contents::fault(4, random)),
     family("rows", 20, |random| contents::fault(5, random)),
     family("numbers", 20, |random| contents::fault(6, random)),

@@ -11,6 +11,7 @@ use std::io::{self, Write};
 /// largest design.
 const WORK: u64 = 4_000_000;
 
+#[derive(Clone, Copy)]
 pub struct Family {
     pub name: &'static str,
     /// How often it comes, measured by the others' shares.
@@ -114,7 +115,24 @@ const HOW: [&str; 1] =
     ["FAMILY FILE PRINTED, and PUBLISHED where that prints otherwise; bytes in hex, - for none"];
 
 /// The list of a command; the same seed and count always give the same.
-pub fn write(command: &str, families: &[Family], seed: u64, count: u64) -> Result<(), String> {
+/// The families with these names; all of them where none is named.
+fn named(families: &[Family], names: &[&str]) -> Result<Vec<Family>, String> {
+    let known = |name: &&&str| families.iter().any(|family| family.name == **name);
+    if let Some(name) = names.iter().find(|name| !known(name)) {
+        return Err(format!("there is no family {name:?}"));
+    }
+    let wanted = |family: &&Family| names.is_empty() || names.contains(&family.name);
+    Ok(families.iter().filter(wanted).copied().collect())
+}
+
+pub fn write(
+    command: &str,
+    families: &[Family],
+    seed: u64,
+    count: u64,
+    names: &[&str],
+) -> Result<(), String> {
+    let families = &named(families, names)?;
     let mut random = Random::new(seed);
     let mut given_up = 0;
     let made: Vec<Made> = (0..count as usize)
@@ -125,8 +143,8 @@ pub fn write(command: &str, families: &[Family], seed: u64, count: u64) -> Resul
         .collect();
 
     let mut out = io::BufWriter::new(io::stdout().lock());
-    let command = format!("{command} {seed} {count}");
-    for line in comments(&command, &HOW, &made, given_up) {
+    let command = format!("{command} {seed} {count} {}", names.join(" "));
+    for line in comments(command.trim_end(), &HOW, &made, given_up) {
         writeln!(out, "# {line}").map_err(unwritable)?;
     }
     for made in &made {

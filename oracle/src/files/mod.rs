@@ -15,7 +15,7 @@ mod sound;
 
 pub use families::{DAMAGES, FILES};
 pub use fields::{bytes, fields};
-pub use list::write;
+pub use list::{write, Family};
 pub use listing::printed;
 pub use replay::list;
 

@@ -25,15 +25,18 @@ impl Penalty {
         }
     }
 
-    /// Comparisons of doubles: a NaN is outside, -0.0 counts as 0.
-    pub fn in_range(&self) -> bool {
-        let alpha = self.alpha.is_finite() && self.alpha >= 0.0;
-        alpha
-            && match self.kind {
-                Kind::L1 => true,
-                Kind::L1PlusL2 => self.second >= 0.0 && self.second <= 1.0,
-                Kind::Mcp => self.second.is_finite() && self.second > 0.0,
-            }
+    /// Which number is outside its range, by its index among the settings
+    /// (request 1). Comparisons of doubles: a NaN is outside, -0.0 counts as 0.
+    pub fn wrong(&self) -> Option<u32> {
+        if !(self.alpha.is_finite() && self.alpha >= 0.0) {
+            return Some(5);
+        }
+        let second = match self.kind {
+            Kind::L1 => true,
+            Kind::L1PlusL2 => self.second >= 0.0 && self.second <= 1.0,
+            Kind::Mcp => self.second.is_finite() && self.second > 0.0,
+        };
+        (!second).then_some(6)
     }
 }
 
@@ -45,35 +48,28 @@ fn accepted(r: f64) -> Answers {
     [status(0, 0), plain(r)].concat()
 }
 
-/// The place is 0 in every call of this layer.
-fn refused(number: u32) -> Answers {
-    [status(number, 0), plain(0.0)].concat()
+fn refused(number: u32, place: u32) -> Answers {
+    [status(number, place), plain(0.0)].concat()
 }
 
 fn violation<V: Leaves>(public: bool, penalty: &Penalty, weight: f64, gradient: f64) -> Answers {
-    if public && !penalty.in_range() {
-        return refused(SETTING_REFUSED);
-    }
     let r = V::violation(penalty, weight, gradient);
-    if public {
-        accepted(r)
-    } else {
-        plain(r)
+    match penalty.wrong() {
+        _ if !public => plain(r),
+        Some(setting) => refused(SETTING_REFUSED, setting),
+        None => accepted(r),
     }
 }
 
 fn value<V: Leaves>(public: bool, penalty: &Penalty, weights: &[f64]) -> Answers {
     if public && !FEATURES.contains(&weights.len()) {
-        return refused(SIZE_REFUSED);
-    }
-    if public && !penalty.in_range() {
-        return refused(SETTING_REFUSED);
+        return refused(SIZE_REFUSED, 0);
     }
     let r = V::value(penalty, weights);
-    if public {
-        accepted(r)
-    } else {
-        plain(r)
+    match penalty.wrong() {
+        _ if !public => plain(r),
+        Some(setting) => refused(SETTING_REFUSED, setting),
+        None => accepted(r),
     }
 }
 

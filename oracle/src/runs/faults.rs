@@ -1,8 +1,9 @@
 //! Faults that are put into sound cases. Each knows what document 01 must find,
 //! so that what `rules` finds is seen to be right.
 
-use super::cases::to_be_spoiled;
+use super::cases::{not_finite, to_be_spoiled};
 use super::corners::LAYOUTS;
+use super::watch::NotFinite;
 use super::FitCase;
 use crate::designs::{input_plans, spoil_inputs, Layout, Place, Plan, Refusal, ANYWHERE};
 use crate::leaves::Kind;
@@ -20,6 +21,23 @@ pub enum Setting {
     Ratio(f64),
     Gamma(f64),
 }
+
+impl Setting {
+    /// Its index, which is the place of its refusal.
+    fn index(&self) -> u32 {
+        match self {
+            Setting::Iterations(_) => 0,
+            Setting::Epochs(_) => 1,
+            Setting::Start(_) => 2,
+            Setting::Depth(_) => 3,
+            Setting::Tolerance(_) => 4,
+            Setting::Alpha(_) => 5,
+            Setting::Ratio(_) | Setting::Gamma(_) => 6,
+        }
+    }
+}
+
+const SETTINGS: std::ops::RangeInclusive<u32> = 0..=6;
 
 #[derive(Clone, Copy)]
 pub enum Buffer {
@@ -145,7 +163,7 @@ impl Fault {
             Fault::Input(plan) => spoil_inputs(plan, &mut case.design, &mut case.targets, random),
             Fault::Setting(setting) => {
                 misset(case, setting);
-                Some((2, 0))
+                Some((2, setting.index()))
             }
             Fault::Cut(buffer, place) => cut(case, buffer, place),
             lacking => Some(with_less_scratch(case, lacking, random)),
@@ -187,7 +205,10 @@ fn any_number(faults: &[Fault], random: &mut Random) -> Fault {
 /// Whether two faults can be in one case, and which of them is found shows.
 fn go_together(one: Fault, other: Fault) -> bool {
     let layouts = one.layout().zip(other.layout());
-    let apart = one.number() != other.number() || one.number() >= 4;
+    let apart = match (one, other) {
+        (Fault::Setting(one), Fault::Setting(other)) => one.index() != other.index(),
+        _ => one.number() != other.number() || one.number() >= 4,
+    };
     apart && layouts.is_none_or(|(one, other)| one == other)
 }
 
@@ -204,4 +225,62 @@ pub fn twice_spoiled(faults: &[Fault], random: &mut Random) -> FitCase {
             return case;
         }
     }
+}
+
+/// What a fault is to be: a setting with this index, or of this number.
+#[derive(Clone, Copy)]
+pub enum Wanted {
+    Setting(u32),
+    Number(u32),
+}
+
+impl Wanted {
+    fn meets(self, fault: &Fault) -> bool {
+        match (self, fault) {
+            (Wanted::Setting(index), Fault::Setting(setting)) => setting.index() == index,
+            (Wanted::Setting(_), _) => false,
+            (Wanted::Number(number), fault) => fault.number() == number,
+        }
+    }
+}
+
+/// Every two settings, each pair in both orders.
+pub fn setting_pairs() -> Vec<[Wanted; 2]> {
+    let pairs = SETTINGS.flat_map(|one| SETTINGS.map(move |other| (one, other)));
+    pairs
+        .filter(|(one, other)| one != other)
+        .map(|(one, other)| [Wanted::Setting(one), Wanted::Setting(other)])
+        .collect()
+}
+
+/// Every setting beside every other refusal that comes before a run.
+pub fn settings_beside() -> Vec<[Wanted; 2]> {
+    let beside = |index| [1, 3, 4, 5, 6].map(|number| [Wanted::Setting(index), Wanted::Number(number)]);
+    SETTINGS.flat_map(beside).collect()
+}
+
+/// Two settings are put in in the order in which they are wanted.
+pub fn spoiled_as(wanted: [Wanted; 2], faults: &[Fault], random: &mut Random) -> FitCase {
+    loop {
+        let mut pair = wanted.map(|wanted| {
+            let meeting = faults.iter().filter(|fault| wanted.meets(fault));
+            random.pick(&meeting.copied().collect::<Vec<_>>())
+        });
+        pair.sort_by_key(|fault| std::cmp::Reverse(fault.number()));
+        if !go_together(pair[0], pair[1]) {
+            continue;
+        }
+        if let Some(case) = try_spoiled(&pair, random) {
+            return case;
+        }
+    }
+}
+
+/// A run that would give 7, with a wrong setting.
+pub fn misset_before_seven(index: u32, faults: &[Fault], random: &mut Random) -> Option<FitCase> {
+    let mut case = not_finite(NotFinite::Constant, random)?;
+    let meeting = faults.iter().filter(|fault| Wanted::Setting(index).meets(fault));
+    let fault = random.pick(&meeting.copied().collect::<Vec<_>>());
+    assert_eq!(fault.spoil(&mut case, random), case.refusal(), "{case:?}");
+    Some(case)
 }

@@ -11,7 +11,7 @@ use crate::random::Random;
 use crate::record::Record;
 use crate::words::Word;
 
-const HOW: [&str; 33] = [
+const HOW: [&str; 34] = [
     "Codes are hex like the other counts. Numbers come from splitmix64 started at",
     "the seed. Code 20: n and p are 1 to 8, now and then up to 20, and in one of a",
     "hundred cases p is 21 to 30 with many equal columns; every second design is",
@@ -19,8 +19,8 @@ const HOW: [&str; 33] = [
     "but agree, columns with one power of two (exact solutions), columns of very",
     "different size, subnormal targets, columns that give weights of -0.0, or",
     "strained: squares that vanish or overflow, targets and steps that overflow or",
-    "nearly. A quarter of the designs has zeros strewn in, a seventh an empty row; a",
-    "third has copies of columns (with a factor), zero columns, or columns whose",
+    "nearly. A quarter of the designs has zeros strewn in, a seventh an empty row;",
+    "a third has copies of columns (with a factor), zero columns, or columns whose",
     "squares vanish. Half of the ordinary targets are integer sums of columns,",
     "mostly with noise. alpha is mostly a part of alpha_max, else +0.0, -0.0, about",
     "alpha_max, above it, or huge; tolerances are mostly +0.0 or a small part of",
@@ -31,16 +31,17 @@ const HOW: [&str; 33] = [
     "is run without extrapolation, which is the same by document 01. Lent buffers",
     "are as long as their room or up to 3 places longer. Code 20 begins with runs",
     "built by hand (P8, P9, P10 and corners, in both layouts); then come every",
-    "fault that is refused with 1 to 6, and ten runs for each number that refusal 7",
-    "is about, but for a violation: no run was found in which it is the first that",
-    "isn't finite. Then 72 of 100 cases are drawn so, 12 are drawn until one accepts",
-    "an extrapolation (each K as often as the others), 6 have a fault and 10 have",
-    "two. Code 21: 1 to 12 features, in one of ten cases 21 to 40; weights with zeros",
-    "of both signs, NaN and infinities, violations with many, few or no equal ones.",
-    "It begins with every fault; then 80 of 100 cases have no fault, 10 have one and",
-    "10 have two. There is no case with arrays of 8,192 or 8,193 entries, and none",
-    "of a working set of fewer than K places where the step would be tried, unless",
-    "p is below K.",
+    "fault that is refused with 1 to 6; every two settings that are wrong, in both",
+    "orders, and every wrong setting beside each other refusal, 7 too; and ten runs",
+    "for each number that refusal 7 is about, but for a violation: no run was found",
+    "in which it is the first that isn't finite. Then 72 of 100 cases are drawn so,",
+    "12 are drawn until one accepts an extrapolation (each K as often as the",
+    "others), 6 have a fault and 10 have two. Code 21: 1 to 12 features, in one of",
+    "ten cases 21 to 40; weights with zeros of both signs, NaN and infinities,",
+    "violations with many, few or no equal ones. It begins with every fault; then",
+    "80 of 100 cases have no fault, 10 have one and 10 have two. There is no case",
+    "with arrays of 8,192 or 8,193 entries, and none of a working set of fewer than",
+    "K places where the step would be tried, unless p is below K.",
     "The answers are those of the loops variant. Refusal 7 is told apart by the",
     "first number that isn't finite, in the order of the Rust's steps. A case is",
     "redrawn where the Rust panics; those that are drawn until something is found",
@@ -69,10 +70,14 @@ const NUMBERS: [(NotFinite, &str); 7] = [
 
 const FOR_EACH_NUMBER: usize = 10;
 
+/// A wrong setting of each kind in a run that would give 7.
+const BEFORE_SEVEN: usize = 7;
+
 /// Makes the runs, one after the other.
 struct Maker<'a> {
     by_hand: Vec<FitCase>,
     faults: Vec<faults::Fault>,
+    pairs: Vec<[faults::Wanted; 2]>,
     redrawn: usize,
     random: &'a mut Random,
 }
@@ -82,6 +87,7 @@ impl Maker<'_> {
         Maker {
             by_hand: corners::by_hand(),
             faults: faults::faults(),
+            pairs: [faults::setting_pairs(), faults::settings_beside()].concat(),
             redrawn: 0,
             random,
         }
@@ -96,6 +102,15 @@ impl Maker<'_> {
             return faults::spoiled(fault, self.random);
         }
         let index = index - self.faults.len();
+        if let Some(&wanted) = self.pairs.get(index) {
+            return faults::spoiled_as(wanted, &self.faults, self.random);
+        }
+        let index = index - self.pairs.len();
+        if index < BEFORE_SEVEN {
+            let found = faults::misset_before_seven(index as u32, &self.faults, self.random);
+            return found.expect("a constant can be infinite");
+        }
+        let index = index - BEFORE_SEVEN;
         let number = NUMBERS.get(index / FOR_EACH_NUMBER);
         let found = number.and_then(|&(number, _)| cases::not_finite(number, self.random));
         if let Some(case) = found {

@@ -15,7 +15,7 @@ mod watch;
 
 pub use cases::{any, extrapolated_from, not_finite, with_settings};
 pub use corners::{by_hand, named, LAYOUTS};
-pub use faults::{faults, spoiled, twice_spoiled};
+pub use faults::{faults, setting_pairs, settings_beside, spoiled, spoiled_as, twice_spoiled, Wanted};
 pub use list::LIST;
 pub use outcome::{outcome, Outcome};
 pub use problems::{of_columns, repeated, targets, varied, Theme};

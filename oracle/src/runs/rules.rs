@@ -1,4 +1,4 @@
-//! Document 01's refusals, which the Rust lacks. 1 and 4 to 6 are those of every
+//! Document 01's refusals, which the Rust lacks, with document 02's places. 1 and 4 to 6 are those of every
 //! call that takes a design; 7 is found by the watch.
 
 use super::{FitCase, Lent, SetCase, Settings};
@@ -10,16 +10,23 @@ const MOST_EPOCHS: u32 = 100_000;
 const STARTS: RangeInclusive<u32> = 1..=8_192;
 pub const DEPTHS: RangeInclusive<u32> = 1..=10;
 
+/// The start's index among the settings (request 1).
+const START: u32 = 2;
+
 impl Settings {
-    /// Comparisons of doubles: a NaN is outside, -0.0 counts as 0.
-    fn in_range(&self) -> bool {
-        self.iterations <= MOST_ITERATIONS
-            && self.epochs <= MOST_EPOCHS
-            && STARTS.contains(&self.start)
-            && (!self.extrapolate || DEPTHS.contains(&self.depth))
-            && self.tolerance.is_finite()
-            && self.tolerance >= 0.0
-            && self.penalty.in_range()
+    /// The first that is outside its range, by its index (request 1); the
+    /// penalty's two come last. Comparisons of doubles: a NaN is outside, -0.0
+    /// counts as 0.
+    fn wrong(&self) -> Option<u32> {
+        let in_range = [
+            self.iterations <= MOST_ITERATIONS,
+            self.epochs <= MOST_EPOCHS,
+            STARTS.contains(&self.start),
+            !self.extrapolate || DEPTHS.contains(&self.depth),
+            self.tolerance.is_finite() && self.tolerance >= 0.0,
+        ];
+        let first = in_range.iter().position(|in_range| !in_range);
+        first.map_or_else(|| self.penalty.wrong(), |index| Some(index as u32))
     }
 }
 
@@ -53,8 +60,8 @@ impl FitCase {
         if !self.design.sizes_hold_with(&self.targets) {
             return Some((1, 0));
         }
-        if !self.settings.in_range() {
-            return Some((2, 0));
+        if let Some(setting) = self.settings.wrong() {
+            return Some((2, setting));
         }
         if self.room_lacks() {
             return Some((3, 0));
@@ -80,7 +87,7 @@ impl SetCase {
             return Some((1, 0));
         }
         if !(1..=features).contains(&(self.start as usize)) {
-            return Some((2, 0));
+            return Some((2, START));
         }
         if self.indices.len() < features {
             return Some((3, 0));

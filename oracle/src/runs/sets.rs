@@ -94,6 +94,9 @@ pub fn sound(random: &mut Random) -> SetCase {
     case
 }
 
+/// The start is the third of the settings, and the place of a wrong one.
+const START: usize = 2;
+
 #[derive(Clone, Copy)]
 pub enum Fault {
     NoFeatures,
@@ -146,8 +149,14 @@ impl Fault {
             }
             Fault::Fewer => drop(case.violations.pop()),
             Fault::More => case.violations.push(1.0),
-            Fault::NoStart => case.start = 0,
-            Fault::LargeStart(by) => case.start = (features as u32).saturating_add(by),
+            Fault::NoStart => {
+                case.start = 0;
+                return Some(START);
+            }
+            Fault::LargeStart(by) => {
+                case.start = (features as u32).saturating_add(by);
+                return Some(START);
+            }
             Fault::Cut(place) => case.indices.truncate(place.of(features)?),
             Fault::Violation(place, violation) => {
                 let feature = place.among(zeros(case))?;
