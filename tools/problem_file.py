@@ -178,23 +178,28 @@ def not_negative(x):
     return math.isfinite(x) and x >= 0
 
 
+def told(value):
+    return "NaN" if value != value else str(value)
+
+
 def wrong_setting(problem):
-    if not 1 <= problem.start <= 8_192:
-        return f"start is {problem.start}, not 1 to 8192"
-    if problem.iterations > 1_000:
-        return f"iterations is {problem.iterations}, not 0 to 1000"
-    if problem.epochs > 100_000:
-        return f"epochs is {problem.epochs}, not 0 to 100000"
-    if problem.extrapolate and not 1 <= problem.depth <= 10:
-        return f"depth is {problem.depth}, not 1 to 10"
-    if not not_negative(problem.tolerance):
-        return f"tolerance is {problem.tolerance}, not a number of at least 0"
-    if not not_negative(problem.alpha):
-        return f"alpha is {problem.alpha}, not a number of at least 0"
-    if problem.penalty == L1PLUSL2 and not 0 <= problem.second <= 1:
-        return f"ratio is {problem.second}, not 0 to 1"
-    if problem.penalty == MCP and not (math.isfinite(problem.second) and problem.second > 0):
-        return f"gamma is {problem.second}, not a number above 0"
+    """The first setting outside its range, by its index, and why. The order is that of the tests, not the header's."""
+    second = problem.second
+    tests = [
+        ("iterations", problem.iterations, problem.iterations <= 1_000, "0 to 1000"),
+        ("epochs", problem.epochs, problem.epochs <= 100_000, "0 to 100000"),
+        ("start", problem.start, 1 <= problem.start <= 8_192, "1 to 8192"),
+        ("depth", problem.depth, not problem.extrapolate or 1 <= problem.depth <= 10, "1 to 10"),
+        ("tolerance", problem.tolerance, not_negative(problem.tolerance), "a number of at least 0"),
+        ("alpha", problem.alpha, not_negative(problem.alpha), "a number of at least 0"),
+    ]
+    if problem.penalty == L1PLUSL2:
+        tests.append(("ratio", second, 0 <= second <= 1, "0 to 1"))
+    if problem.penalty == MCP:
+        tests.append(("gamma", second, math.isfinite(second) and second > 0, "a number above 0"))
+    for index, (name, value, fine, allowed) in enumerate(tests):
+        if not fine:
+            return index, f"setting {index}, {name}, is {told(value)}, not {allowed}"
     return None
 
 
@@ -241,10 +246,7 @@ def refusal(problem):
     reason = wrong_length(problem)
     if reason:
         return 1, 0, reason
-    reason = wrong_setting(problem)
-    if reason:
-        return 2, 0, reason
-    for number, found in ((4, bad_start), (5, bad_row), (6, bad_number)):
+    for number, found in ((2, wrong_setting), (4, bad_start), (5, bad_row), (6, bad_number)):
         place = found(problem)
         if place:
             return number, *place
