@@ -83,7 +83,7 @@ fn accelerate(
     counts: Counts,
 ) -> Counts
     requires { ⌜ here.Ready (given shape (now starts) (now rows) (now values) (now y)) settings (now w) (now fit) (now scratch)
-        × here.Features shape (now ws) × here.Counted 1000000000 counts ⌝ }
+        × here.Features shape (now ws) × here.Bounded 1000000000 counts ⌝ }
     ensures { λ r. ⌜ (let g = given shape (now (starts .entry)) (now (rows .entry)) (now (values .entry)) (now (y .entry)) in
         let T = taskIn g (settings .penalty) (now (scratch .entry)) in
         let before = here.innerOf counts (now (w .entry)) (now (fit .entry)) (here.keptHere shape settings (now (scratch .entry))) in
@@ -137,7 +137,7 @@ fn run_epoch(
     counts: Counts,
 ) -> InnerStep
     requires { ⌜ here.Ready (given shape (now starts) (now rows) (now values) (now y)) settings (now w) (now fit) (now scratch)
-        × here.Features shape (now ws) × here.Counted 1000000000 counts ⌝ }
+        × here.Features shape (now ws) × here.Bounded 1000000000 counts ⌝ }
     ensures { λ r. ⌜ (let g = given shape (now (starts .entry)) (now (rows .entry)) (now (values .entry)) (now (y .entry)) in
         let T = taskIn g (settings .penalty) (now (scratch .entry)) in
         let before = here.innerOf counts (now (w .entry)) (now (fit .entry)) (here.keptHere shape settings (now (scratch .entry))) in
@@ -201,7 +201,7 @@ pub fn run_epochs(
     from: Counts,
 ) -> InnerStep
     requires { ⌜ here.Ready (given shape (now starts) (now rows) (now values) (now y)) settings (now w) (now fit) (now scratch)
-        × here.Features shape (now ws) × here.Counted 100000000 from ⌝ }
+        × here.Features shape (now ws) × here.Bounded 100000000 from ⌝ }
     ensures { λ r. ⌜ (let g = given shape (now (starts .entry)) (now (rows .entry)) (now (values .entry)) (now (y .entry)) in
         let T = taskIn g (settings .penalty) (now (scratch .entry)) in
         let before = here.innerOf from (now (w .entry)) (now (fit .entry)) (here.keptHere shape settings (now (scratch .entry))) in

@@ -8,7 +8,7 @@ use native.Mathlib.Omega.{arith}
 use lib.Dec.{eqb}
 use lib.ListN.{length, getD, take, drop, set, take-append-drop}
 use borrow.Author.Tests.{eqb-true, eq-eqb}
-use Rattle.doubles.specs.Inner.Order.{Each, is, count, Same}
+use Rattle.doubles.specs.Inner.Order.{Each, is, often, Same}
 
 pub is-self : (a : ℕ) → is a a ≡ 1
 unfolding is
@@ -19,23 +19,23 @@ unfolding is
 is-other a b e = rw e
 
 -- ---- another number in a place, or more behind
-pub count-set : (a : ℕ) (l : List ℕ) (k x : ℕ) → k < length l → count a (set l k x) + is a (getD l k 0) ≡ count a l + is a x
-unfolding count
+pub count-set : (a : ℕ) (l : List ℕ) (k x : ℕ) → k < length l → often a (set l k x) + is a (getD l k 0) ≡ often a l + is a x
+unfolding often
 count-set a [] k x h = absurd (omega arith)
 count-set a (b ∷ l) zero x h = omega arith
 count-set a (b ∷ l) (suc k) x h = let e = count-set a l k x (omega arith) in omega arith
 
-pub count-append : (a : ℕ) (l m : List ℕ) → count a (l ++ m) ≡ count a l + count a m
-unfolding count
+pub count-append : (a : ℕ) (l m : List ℕ) → often a (l ++ m) ≡ often a l + often a m
+unfolding often
 count-append a [] m = omega arith
 count-append a (b ∷ l) m = let e = count-append a l m in omega arith
 
-pub count-cons : (a b : ℕ) (l : List ℕ) → count a (b ∷ l) ≡ is a b + count a l
-unfolding count
+pub count-cons : (a b : ℕ) (l : List ℕ) → often a (b ∷ l) ≡ is a b + often a l
+unfolding often
 count-cons a b l = refl
 
-pub count-one : (a x : ℕ) → count a (x ∷ []) ≡ is a x
-unfolding count
+pub count-one : (a x : ℕ) → often a (x ∷ []) ≡ is a x
+unfolding often
 count-one a x = add-zero (is a x)
 
 -- ---- what holds of each
@@ -64,18 +64,18 @@ pub each-take : (P : ℕ → Type 0) (n : ℕ) (l : List ℕ) → Each P l → E
 each-take P n l f = each-front P (take n l) (drop n l) (rw take-append-drop f)
 
 -- ---- what stands in a list is counted, and of what is counted holds what holds of each
-pub counted : (l : List ℕ) (k : ℕ) → k < length l → 0 < count (getD l k 0) l
-unfolding count
+pub counted : (l : List ℕ) (k : ℕ) → k < length l → 0 < often (getD l k 0) l
+unfolding often
 counted [] k h = absurd (omega arith)
 counted (b ∷ l) zero h = let e = is-self b in omega arith
 counted (b ∷ l) (suc k) h = let e = counted l k (omega arith) in omega arith
 
-pub counted-each : (P : ℕ → Type 0) (a : ℕ) (l : List ℕ) → 0 < count a l → Each P l → P a
-unfolding count
+pub counted-each : (P : ℕ → Type 0) (a : ℕ) (l : List ℕ) → 0 < often a l → Each P l → P a
+unfolding often
 counted-each P a [] h f = absurd (omega arith)
 counted-each P a (b ∷ l) h f = go (eqb a b) refl (counted-each P a l)
   where
-    go : (t : Bool) → eqb a b ≡ t → (0 < count a l → Each P l → P a) → P a
+    go : (t : Bool) → eqb a b ≡ t → (0 < often a l → Each P l → P a) → P a
     go true e r = rw (eqb-true a b e) (f .each 0 (zero-lt-suc (length l)))
     go false e r = let z = is-other a b e in r (omega arith) (each-rest P b l f)
 

@@ -8,7 +8,7 @@ use Prim.Native.Nat.{ℕ, zero, suc, _+_, _≤_, _<_}
 use native.Mathlib.Nat.{zero-lt-suc}
 use native.Mathlib.Omega.{arith}
 use lib.ListN.{length, getD, take}
-use Rattle.doubles.specs.Inner.Order.{Behind, Strict, Each, OrderedFrom, is, count, Same}
+use Rattle.doubles.specs.Inner.Order.{Behind, Strict, Each, OrderedFrom, is, often, Same}
 use Rattle.doubles.proofs.Laws.Counts.{is-self, each-cons, each-append, counted-each}
 
 -- ---- a number at the head of a list in order
@@ -47,7 +47,7 @@ module _ {ahead : ℕ → ℕ → Bool} {Good : ℕ → Type 0} (o : Strict ahea
 
   pub first-of : (s over l : List ℕ) → OrderedFrom ahead 0 s → Each (λ x. Each (Behind ahead x) s) over → OrderedFrom ahead 0 l → Same (s ++ over) l
       → s ≡ take (length s) l
-  unfolding count
+  unfolding often
   first-of [] over l p b q e = refl
   first-of (a ∷ s) over [] p b q e = let i = is-self a in let n = e .each a in absurd (omega arith)
   first-of (a ∷ s) over (c ∷ l) p b q e = go (first-of s over l (ordered-tail a s p) over-tail (ordered-tail c l q))
@@ -70,7 +70,7 @@ module _ {ahead : ℕ → ℕ → Bool} {Good : ℕ → Type 0} (o : Strict ahea
       tails : Same (s ++ over) l
       tails = record { each = λ x. one x (e .each x) (ap (is x) here) }
         where
-          one : (x : ℕ) → is x a + count x (s ++ over) ≡ is x c + count x l → is x a ≡ is x c → count x (s ++ over) ≡ count x l
+          one : (x : ℕ) → is x a + often x (s ++ over) ≡ is x c + often x l → is x a ≡ is x c → often x (s ++ over) ≡ often x l
           one x m n = omega arith
 
       go : (Same (s ++ over) l → s ≡ take (length s) l) → a ∷ s ≡ c ∷ take (length s) l

@@ -30,10 +30,10 @@ pub record OrderedFrom (ahead : ℕ → ℕ → Bool) (c : ℕ) (l : List ℕ) :
 unfoldable pub is : ℕ → ℕ → ℕ
 is a b = pick (eqb a b) 1 0
 
-unfoldable pub count : ℕ → List ℕ → ℕ
-count a [] = 0
-count a (b ∷ l) = is a b + count a l
+unfoldable pub often : ℕ → List ℕ → ℕ
+often a [] = 0
+often a (b ∷ l) = is a b + often a l
 
 -- the same numbers, each as often
 pub record Same (l m : List ℕ) : Type 0 where
-  pub each : (a : ℕ) → count a l ≡ count a m
+  pub each : (a : ℕ) → often a l ≡ often a m

@@ -55,6 +55,6 @@ pub record Features (s : Shape) (ws : List ℕ) : Type 0 where
   pub below : (k : ℕ) → k < length ws → getD ws k 0 < s .p
 
 -- counts of at most m epochs
-pub record Counted (m : ℕ) (c : Counts) : Type 0 where
+pub record Bounded (m : ℕ) (c : Counts) : Type 0 where
   pub epochs : c .epochs ≤ m
   pub extrapolations : c .extrapolations ≤ m

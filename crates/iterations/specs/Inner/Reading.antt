@@ -10,7 +10,7 @@ use Rattle.designs.specs.declared.Shape.{Shape}
 use Rattle.definition.specs.Run.{State}
 use Rattle.definition.specs.Call.{End, untouched, givenUp, done}
 use Rattle.definition.specs.declared.Settings.{Settings}
-use Rattle.epochs.specs.Inner.Reading.{keptHere, innerOf, Counted}
+use Rattle.epochs.specs.Inner.Reading.{keptHere, innerOf, Bounded}
 use Rattle.iterations.specs.declared.Totals.{Totals}
 use Rattle.iterations.specs.declared.OuterStep.{OuterStep}
 use Rattle.iterations.specs.declared.OuterStep.the-variants as Outer'
@@ -68,7 +68,7 @@ showsEnd s S r w fit scratch d = endOf r w fit (keptHere s S scratch) (setsAt d)
 -- counts of t iterations
 pub record Totalled (t : ℕ) (c : Totals) : Type 0 where
   pub iterations : c .iterations ≤ t
-  pub counts : Counted (t * 100000) (c .counts)
+  pub counts : Bounded (t * 100000) (c .counts)
 
 -- at most one iteration more
 pub record Grown (c d : Totals) : Type 0 where

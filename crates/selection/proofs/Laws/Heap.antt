@@ -10,7 +10,7 @@ use native.Mathlib.Omega.{arith}
 use mir.Val.{boolByte}
 use lib.ListN.{length, getD, take, drop, set, length-set, length-append, length-drop, take-append-drop, List·getD-append}
 use lib.Seq.{getD-set-same, getD-set-other, getD-take, getD-drop, getD-append-add, length-take-le, take-append-le, take-at, take-length, set-getD}
-use Rattle.doubles.specs.Inner.Order.{Behind, Strict, Each, OrderedFrom, count, Same}
+use Rattle.doubles.specs.Inner.Order.{Behind, Strict, Each, OrderedFrom, often, Same}
 use Rattle.doubles.proofs.Laws.Steps.{set-place as placed}
 use Rattle.doubles.proofs.Laws.Counts.{count-set, count-append, same-each, same-self, same-trans}
 use Rattle.doubles.proofs.Laws.Sorted.{behind-self}
@@ -109,7 +109,7 @@ sink-same : (l : List ℕ) (k r x : ℕ) (m : List ℕ) → k < length l → r <
     → Same (set (set l k (getD l r 0)) r x) m
 sink-same l k r x m h g n s = record { each = λ a. one a (s .each a) }
   where
-    one : (a : ℕ) → count a (set l k x) ≡ count a m → count a (set (set l k (getD l r 0)) r x) ≡ count a m
+    one : (a : ℕ) → often a (set l k x) ≡ often a m → often a (set (set l k (getD l r 0)) r x) ≡ often a m
     one a e =
         let p = count-set a l k x h in
         let q = count-set a l k (getD l r 0) h in
@@ -323,7 +323,7 @@ module _ {ahead : ℕ → ℕ → Bool} {Good : ℕ → Type 0} (o : Strict ahea
         pub pop-same : Same (r ++ drop end (set l end (getD l 0 0))) l
         pop-same = record { each = one }
           where
-            one : (a : ℕ) → count a (r ++ drop end (set l end (getD l 0 0))) ≡ count a l
+            one : (a : ℕ) → often a (r ++ drop end (set l end (getD l 0 0))) ≡ often a l
             one a =
                 let p = count-append a r (drop end (set l end (getD l 0 0))) in
                 let q = s .each a in
@@ -386,7 +386,7 @@ module _ {ahead : ℕ → ℕ → Bool} {Good : ℕ → Type 0} {l₀ l : List �
     same-l : Same (r ++ drop c l) l
     same-l = record { each = λ a. one a (u .each a) }
       where
-        one : (a : ℕ) → count a r ≡ count a (take c l) → count a (r ++ drop c l) ≡ count a l
+        one : (a : ℕ) → often a r ≡ often a (take c l) → often a (r ++ drop c l) ≡ often a l
         one a p = let q = count-append a r (drop c l) in let w = rw take-append-drop at (count-append a (take c l) (drop c l)) in omega arith
 
     fore : (k : ℕ) → k < c → getD (r ++ drop c l) k 0 ≡ getD r k 0

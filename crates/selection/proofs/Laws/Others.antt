@@ -9,7 +9,7 @@ use lib.Ieee.{Float, lt}
 use lib.ListN.{length, getD, length-append}
 use Rattle.doubles.specs.Num.{at, pick}
 use Rattle.doubles.specs.Steps.{steps}
-use Rattle.doubles.specs.Inner.Order.{Behind, Each, OrderedFrom, is, count}
+use Rattle.doubles.specs.Inner.Order.{Behind, Each, OrderedFrom, is, often}
 use Rattle.doubles.proofs.Laws.Steps.{steps-more}
 use Rattle.doubles.proofs.Laws.Counts.{count-cons, each-none, each-cons, same-each}
 use Rattle.doubles.proofs.Laws.Sorted.{ordered-cons, ordered-head, ordered-tail}
@@ -27,12 +27,12 @@ length-insert v j (k ∷ l) = go (lt (at v k) (at v j)) (length-insert v j l)
     go true e = omega arith
     go false e = omega arith
 
-count-insert : (v : List Float) (a j : ℕ) (l : List ℕ) → count a (insert v j l) ≡ count a l + is a j
-unfolding count insert
+count-insert : (v : List Float) (a j : ℕ) (l : List ℕ) → often a (insert v j l) ≡ often a l + is a j
+unfolding often insert
 count-insert v a j [] = omega arith
 count-insert v a j (k ∷ l) = go (lt (at v k) (at v j)) (count-insert v a j l)
   where
-    go : (t : Bool) → count a (insert v j l) ≡ count a l + is a j → count a (pick t (j ∷ (k ∷ l)) (k ∷ insert v j l)) ≡ count a (k ∷ l) + is a j
+    go : (t : Bool) → often a (insert v j l) ≡ often a l + is a j → often a (pick t (j ∷ (k ∷ l)) (k ∷ insert v j l)) ≡ often a (k ∷ l) + is a j
     go true e = omega arith
     go false e = omega arith
 
@@ -47,10 +47,10 @@ others-length v w j = rw (others-more v w j) (go (isZero w j))
     go true = length-insert v j (others v w j)
     go false = refl
 
-pub others-count : (v w : List Float) (a j : ℕ) → count a (others v w (j + 1)) ≡ pick (isZero w j) (count a (others v w j) + is a j) (count a (others v w j))
+pub others-count : (v w : List Float) (a j : ℕ) → often a (others v w (j + 1)) ≡ pick (isZero w j) (often a (others v w j) + is a j) (often a (others v w j))
 others-count v w a j = rw (others-more v w j) (go (isZero w j))
   where
-    go : (t : Bool) → count a (pick t (insert v j (others v w j)) (others v w j)) ≡ pick t (count a (others v w j) + is a j) (count a (others v w j))
+    go : (t : Bool) → often a (pick t (insert v j (others v w j)) (others v w j)) ≡ pick t (often a (others v w j) + is a j) (often a (others v w j))
     go true = count-insert v a j (others v w j)
     go false = refl
 

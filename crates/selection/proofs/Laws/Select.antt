@@ -14,7 +14,7 @@ use lib.ListN.{length, getD, take, set}
 use lib.Seq.{take-all, take-suc-set}
 use Rattle.doubles.specs.Num.{pick, _and_}
 use Rattle.doubles.specs.Steps.{steps}
-use Rattle.doubles.specs.Inner.Order.{Behind, Each, OrderedFrom, is, count, Same}
+use Rattle.doubles.specs.Inner.Order.{Behind, Each, OrderedFrom, is, often, Same}
 use Rattle.doubles.proofs.Laws.Counts.{count-set, count-append, count-cons, count-one, each-none, each-cons, each-front, same-each, same-self}
 use Rattle.doubles.proofs.Laws.Sorted.{first-of}
 use Rattle.definition.specs.WorkingSet.{isZero, support, others}
@@ -72,8 +72,8 @@ module _ {w : List Float} {m : ℕ} {l : List ℕ} {c j : ℕ} (s : FirstAt w m 
       fewer true = omega arith
       fewer false = s .few
 
-      kept : (v : List Float) (a : ℕ) (t : Bool) → count a (take c l) ≡ count a (others v w j)
-          → count a (take (pick t (c + 1) c) (pick t (set l c j) l)) ≡ pick t (count a (others v w j) + is a j) (count a (others v w j))
+      kept : (v : List Float) (a : ℕ) (t : Bool) → often a (take c l) ≡ often a (others v w j)
+          → often a (take (pick t (c + 1) c) (pick t (set l c j) l)) ≡ pick t (often a (others v w j) + is a j) (often a (others v w j))
       kept v a true z =
           let x = count-append a (take c l) (j ∷ []) in
           let y = count-one a j in
@@ -95,11 +95,11 @@ pub record RestAt (v w : List Float) (from : ℕ) (l₀ l : List ℕ) (j : ℕ) 
   pub heap : Heap (ahead v) 0 l
   over : List ℕ
   behind : Each (λ x. Number v x × Each (Behind (ahead v) x) l) over
-  tally : (a : ℕ) → count a l + count a over + count a (others v w j) ≡ count a (others v w (length w)) + count a (others v w from)
+  tally : (a : ℕ) → often a l + often a over + often a (others v w j) ≡ often a (others v w (length w)) + often a (others v w from)
 
 pub rest-none : {v w : List Float} {from : ℕ} {l : List ℕ} → length v ≡ length w → Numbers v w → from ≤ length w → Heap (ahead v) 0 l
     → Same l (others v w from) → RestAt v w from l l (length w)
-unfolding count
+unfolding often
 rest-none {v} {w} {from} {l} e f h p s = record {
   low = h;
   high = omega arith;
@@ -126,7 +126,7 @@ module _ {v w : List Float} {from : ℕ} {l₀ l : List ℕ} {j : ℕ} (e : leng
   -- the same with what is kept in other places, and what is left over now
   turned : (l' m over' : List ℕ) → length l' ≡ length l → Heap (ahead v) 0 l' → Same l' m → Each (Number v) m
       → Each (λ x. Number v x × Each (Behind (ahead v) x) m) over'
-      → ((a : ℕ) → count a m + count a over' + count a (others v w i) ≡ count a l + count a (s .over) + count a (others v w (i + 1)))
+      → ((a : ℕ) → often a m + often a over' + often a (others v w i) ≡ often a l + often a (s .over) + often a (others v w (i + 1)))
       → RestAt v w from l₀ l' i
   turned l' m over' len h t n d c = let hi = s .high in record {
     low = omega arith;
@@ -139,10 +139,10 @@ module _ {v w : List Float} {from : ℕ} {l₀ l : List ℕ} {j : ℕ} (e : leng
     tally = λ a. one a (t .each a) (c a) (rw ei at (s .tally a));
   }
     where
-      one : (a : ℕ) → count a l' ≡ count a m
-          → count a m + count a over' + count a (others v w i) ≡ count a l + count a (s .over) + count a (others v w (i + 1))
-          → count a l + count a (s .over) + count a (others v w (i + 1)) ≡ count a (others v w (length w)) + count a (others v w from)
-          → count a l' + count a over' + count a (others v w i) ≡ count a (others v w (length w)) + count a (others v w from)
+      one : (a : ℕ) → often a l' ≡ often a m
+          → often a m + often a over' + often a (others v w i) ≡ often a l + often a (s .over) + often a (others v w (i + 1))
+          → often a l + often a (s .over) + often a (others v w (i + 1)) ≡ often a (others v w (length w)) + often a (others v w from)
+          → often a l' + often a over' + often a (others v w i) ≡ often a (others v w (length w)) + often a (others v w from)
       one a p q r = omega arith
 
   module _ (l' : List ℕ) (len : length l' ≡ length l) (h : Heap (ahead v) 0 l') where
@@ -197,8 +197,8 @@ rest-all {v} {w} {from} {l₀} {l} {j} s b = record {
   all = record { each = λ a. one a (rw (le-antisymm b (s .low)) at (s .tally a)) };
 }
   where
-    one : (a : ℕ) → count a l + count a (s .over) + count a (others v w from) ≡ count a (others v w (length w)) + count a (others v w from)
-        → count a (l ++ s .over) ≡ count a (others v w (length w))
+    one : (a : ℕ) → often a l + often a (s .over) + often a (others v w from) ≡ often a (others v w (length w)) + often a (others v w from)
+        → often a (l ++ s .over) ≡ often a (others v w (length w))
     one a n = let c = count-append a l (s .over) in omega arith
 
 -- ---- what is chosen, put in order, is the first of the others
@@ -215,7 +215,7 @@ chosen-first {v} {w} {l} {k} e f o s c =
     (others-ordered v w (length w) e f (omega arith))
     (record { each = λ a. one a (s .each a) (c .all .each a) })
   where
-    one : (a : ℕ) → count a l ≡ count a k → count a (k ++ c .over) ≡ count a (others v w (length w)) → count a (l ++ c .over) ≡ count a (others v w (length w))
+    one : (a : ℕ) → often a l ≡ often a k → often a (k ++ c .over) ≡ often a (others v w (length w)) → often a (l ++ c .over) ≡ often a (others v w (length w))
     one a m n = let x = count-append a l (c .over) in let y = count-append a k (c .over) in omega arith
 
 -- there is room for none
