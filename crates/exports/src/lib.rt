@@ -10,7 +10,7 @@ ghost use Rattle.datafits.specs.Calls as calls;
 ghost use Rattle.definition.specs.Call as call;
 ghost use Rattle.worksets.specs.Call as sets;
 ghost use Rattle.plain_numbers.specs.Codes as codes;
-ghost use Rattle.plain_numbers.specs.Codes.{numberIn, placeIn, kept};
+ghost use Rattle.plain_numbers.specs.Codes.{numberIn, placeIn, answerIn};
 use penalties::prox_funcs::soft_thresholding;
 use penalties::separable;
 use plain_numbers::csc;
@@ -191,7 +191,7 @@ pub extern "C" fn koyramutey_working_set(
     place: &mut usize,
 ) -> u32
     ensures { λ r. ⌜ (let answer = sets.wsCall (now (violations .entry)) (now (w .entry)) start (now (indices .entry)) in
-        (r ≡ numberIn answer) × (now (place .exit) ≡ placeIn answer) × (now (size .exit) ≡ kept answer (now (size .entry)))
+        (r ≡ numberIn answer) × (now (place .exit) ≡ placeIn answer) × (now (size .exit) ≡ answerIn answer (now (size .entry)))
         × (now (indices .exit) ≡ sets.wsLeft (now (violations .entry)) (now (w .entry)) start (now (indices .entry)))) ⌝ }
 {
     let answer = construct_ws_from_kkt(violations, w, start, indices);
@@ -211,7 +211,7 @@ pub extern "C" fn koyramutey_penalty_value(
     place: &mut usize,
 ) -> u32
     ensures { λ r. ⌜ (let answer = pen.penaltyValueCall (codes.codedPenalty penalty alpha second) (now (w .entry)) in
-        (r ≡ numberIn answer) × (now (place .exit) ≡ placeIn answer) × (now (value .exit) ≡ kept answer (now (value .entry)))) ⌝ }
+        (r ≡ numberIn answer) × (now (place .exit) ≡ placeIn answer) × (now (value .exit) ≡ answerIn answer (now (value .entry)))) ⌝ }
 {
     let answer = separable::value(penalty_of(penalty, alpha, second), w);
     tell_number(answer, value, place)
@@ -229,7 +229,7 @@ pub extern "C" fn koyramutey_penalty_violation(
     place: &mut usize,
 ) -> u32
     ensures { λ r. ⌜ (let answer = pen.penaltyViolationCall (codes.codedPenalty penalty alpha second) w gradient in
-        (r ≡ numberIn answer) × (now (place .exit) ≡ placeIn answer) × (now (violation .exit) ≡ kept answer (now (violation .entry)))) ⌝ }
+        (r ≡ numberIn answer) × (now (place .exit) ≡ placeIn answer) × (now (violation .exit) ≡ answerIn answer (now (violation .entry)))) ⌝ }
 {
     let answer = separable::subdiff_distance(penalty_of(penalty, alpha, second), w, gradient);
     tell_number(answer, violation, place)

@@ -23,9 +23,9 @@ placeIn (refused number place) = place
 placeIn (answered a) = 0
 
 -- and the answer where a caller's number was: refused, it is what it was
-abbrev pub kept : {A : Type 0} → Outcome A → A → A
-kept (refused number place) old = old
-kept (answered a) old = a
+abbrev pub answerIn : {A : Type 0} → Outcome A → A → A
+answerIn (refused number place) old = old
+answerIn (answered a) old = a
 
 -- ---- the settings: "penalty 0 L1/1 L1PlusL2/2 MCP"; "second number (.. ignored for L1)"
 -- any other code stands for a penalty with the same alpha and a second number that is in no range, and so for 2 at 6, behind alpha's 2 at 5
@@ -71,4 +71,4 @@ reply number place r b = record { number = number; place = place; report = r; le
 unfoldable pub fitReply : Given → Settings → Lent → Report → Reply
 fitReply g S b old =
     let done = fitCall g S b in
-    reply (numberIn done) (placeIn done) (kept done old) (fitLeft g S b)
+    reply (numberIn done) (placeIn done) (answerIn done old) (fitLeft g S b)

@@ -104,7 +104,7 @@ pub fn tell(
 ) -> u32
     ensures { λ r. ⌜ (let old = codes.report (now (status .entry)) (now (violation .entry)) (now (sets .entry)) (now (passes .entry)) (now (accepted .entry)) in
         let new = codes.report (now (status .exit)) (now (violation .exit)) (now (sets .exit)) (now (passes .exit)) (now (accepted .exit)) in
-        (r ≡ codes.numberIn (call.fitOf done)) × (now (place .exit) ≡ codes.placeIn (call.fitOf done)) × (new ≡ codes.kept (call.fitOf done) old)) ⌝ }
+        (r ≡ codes.numberIn (call.fitOf done)) × (now (place .exit) ≡ codes.placeIn (call.fitOf done)) × (new ≡ codes.answerIn (call.fitOf done) old)) ⌝ }
 {
     match done {
         Fit::Refused(refusal) => {
@@ -142,7 +142,7 @@ pub fn tell_verdict(verdict: Verdict, place: &mut usize) -> u32
 // A working set's answer in the caller's numbers. A refusal does not write the size.
 pub fn tell_size(answer: WorkingSet, size: &mut usize, place: &mut usize) -> u32
     ensures { λ r. ⌜ (r ≡ codes.numberIn (sets.sizeOf answer)) × (now (place .exit) ≡ codes.placeIn (sets.sizeOf answer))
-        × (now (size .exit) ≡ codes.kept (sets.sizeOf answer) (now (size .entry))) ⌝ }
+        × (now (size .exit) ≡ codes.answerIn (sets.sizeOf answer) (now (size .entry))) ⌝ }
 {
     match answer {
         WorkingSet::Refused(why) => {
@@ -158,9 +158,9 @@ pub fn tell_size(answer: WorkingSet, size: &mut usize, place: &mut usize) -> u32
 }
 
 // A double's answer in the caller's numbers. A refusal does not write the double.
-pub fn tell_number(answer: Number, number: &mut f64, place: &mut usize) -> u32
+pub fn tell_number(answer: Number, value: &mut f64, place: &mut usize) -> u32
     ensures { λ r. ⌜ (r ≡ codes.numberIn (numberOf answer)) × (now (place .exit) ≡ codes.placeIn (numberOf answer))
-        × (now (number .exit) ≡ codes.kept (numberOf answer) (now (number .entry))) ⌝ }
+        × (now (value .exit) ≡ codes.answerIn (numberOf answer) (now (value .entry))) ⌝ }
 {
     match answer {
         Number::Refused(reason) => {
@@ -168,7 +168,7 @@ pub fn tell_number(answer: Number, number: &mut f64, place: &mut usize) -> u32
             reason.number
         }
         Number::Is(x) => {
-            *number = x;
+            *value = x;
             *place = 0;
             0
         }

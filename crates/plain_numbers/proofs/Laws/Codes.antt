@@ -20,15 +20,15 @@ use Rattle.definition.specs.declared.Fit.{Fit}
 use Rattle.definition.specs.declared.Fit.the-variants as Fit
 use Rattle.definition.specs.declared.Report.{Report}
 use Rattle.definition.specs.declared.Settings.{Settings}
-use Rattle.plain_numbers.specs.Codes.{numberIn, placeIn, kept, noPenalty, codedPenalty, codedProx, codedSettings}
+use Rattle.plain_numbers.specs.Codes.{numberIn, placeIn, answerIn, noPenalty, codedPenalty, codedProx, codedSettings}
 use Rattle.plain_numbers.specs.Codes.{reply, fitReply}
 
 -- ---- the arms of a match on the answer
 pub refused-told : (d : Fit) (r : Refusal) (old : Report) → d ≡ Fit.Refused r
-    → (r .number ≡ numberIn (fitOf d)) × (r .place ≡ placeIn (fitOf d)) × (old ≡ kept (fitOf d) old)
+    → (r .number ≡ numberIn (fitOf d)) × (r .place ≡ placeIn (fitOf d)) × (old ≡ answerIn (fitOf d) old)
 refused-told d r old h = rw h (refl, refl, refl)
 
-pub done-told : (d : Fit) (r old : Report) → d ≡ Fit.Done r → (0 ≡ numberIn (fitOf d)) × (0 ≡ placeIn (fitOf d)) × (r ≡ kept (fitOf d) old)
+pub done-told : (d : Fit) (r old : Report) → d ≡ Fit.Done r → (0 ≡ numberIn (fitOf d)) × (0 ≡ placeIn (fitOf d)) × (r ≡ answerIn (fitOf d) old)
 done-told d r old h = rw h (refl, refl, refl)
 
 -- ---- a fault in numbers is that of the equal one
@@ -40,7 +40,7 @@ same-told e h = rw (← e) h
 module _ {s s' : Shape} (starts rows : List ℕ) (values y : List Float) {S S' : Settings} (b : Lent) (hs : s ≡ s') (hS : S ≡ S') where
   pub called : {o : Outcome Report} {l : Lent} {number place : ℕ} {new : Report} (old : Report)
       → (o ≡ fitCall (given s starts rows values y) S b) × (l ≡ fitLeft (given s starts rows values y) S b)
-      → (number ≡ numberIn o) × (place ≡ placeIn o) × (new ≡ kept o old)
+      → (number ≡ numberIn o) × (place ≡ placeIn o) × (new ≡ answerIn o old)
       → reply number place new l ≡ fitReply (given s' starts rows values y) S' b old
   unfolding fitReply
   called old done told = rw (← hs, ← hS, ← done .0, ← done .1, told .0, told .1, told .2)
