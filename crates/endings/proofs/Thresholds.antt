@@ -25,7 +25,7 @@ use Rattle.definition.proofs.Laws.Passed.{passed}
 use Rattle.definition.proofs.Laws.Settings.{penalty-legal}
 use Rattle.two_runs.proofs.OneRun.{visit-feature, visit-keeps}
 use Rattle.endings.specs.NotFinite.{Visited, visited}
-use Rattle.endings.specs.Thresholds.{valueAt, stepAt, AsBefore}
+use Rattle.endings.specs.Thresholds.{valueAt, AsBefore}
 use Rattle.endings.proofs.Laws.Points.{Good, good-kept}
 
 -- ---- a solve with any prepared numbers, the constants being doubles

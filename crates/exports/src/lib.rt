@@ -1,5 +1,5 @@
-// Calls for programs in other languages: numbers, slices and references to numbers. A slice passes as a pointer and then a length. The leaves
-// answer a double; each other call answers document 01's refusal number, 0 where there is none, and leaves the refusal's place in `place`.
+// Calls for programs in other languages: numbers, slices and references to numbers. A slice passes as a pointer and then a length. Soft
+// threshold and prox answer a double; each other call answers the refusal's number, 0 where there is none, and leaves the refusal's place in `place`.
 ghost use mathlib.Core.List.{[]};
 ghost use mathlib.Core.Path.{_≡_};
 ghost use Rattle.penalties.specs.Penalty as pen;

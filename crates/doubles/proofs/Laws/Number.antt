@@ -1,7 +1,7 @@
 -- What is no NaN: a fraction that was rounded; a product, a sum or a difference of finite numbers; a quotient by what is no zero. Some of these may
 -- be infinities, and the laws go on from there: an infinity less or times a finite number. Assumes nothing.
 use mathlib.Core.Path.{_≡_, refl, sym, ap, _∙_}
-use Prim.Native.Nat.{ℕ, zero, suc, _+_, _*_, _/_, _%_, _^_, _-_, _≤_, _<_, compare}
+use Prim.Native.Nat.{ℕ, zero, suc, _+_, _*_, _/_, _%_, _^_, _-_, _≤_, compare}
 use native.Mathlib.Nat.{le-trans, le-of-eq, le-of-lt, zero-lt-suc, one-mul, mul-one, mul-comm, mul-pos, mul-le-mul-right}
 use native.Mathlib.Omega.{arith}
 use mathlib.Core.Bool.{Bool, true, false, not, _&&_, Bool·beq, cond, true≢false, false≢true}

@@ -1,6 +1,6 @@
 -- Lists in order, for any strict order of numbers. The first of a list in order are determined by its members. The idea: the head of each of two such
 -- lists stands in the other, so neither is ahead. Assumes nothing.
-use mathlib.Core.Path.{_≡_, refl, sym, ap, _∙_}
+use mathlib.Core.Path.{_≡_, refl, sym, ap}
 use mathlib.Core.Bool.{Bool, true, false}
 use mathlib.Core.Logic.{_⊎_, inl, inr}
 use mathlib.Core.List.{List, [], _∷_, _++_}

@@ -2,7 +2,7 @@
 use mathlib.Core.Path.{_≡_, refl, sym, ap, _∙_}
 use mathlib.Core.Bool.{Bool, true, false}
 use Prim.Native.Nat.{ℕ, _≤_}
-use Rattle.doubles.specs.Answer.{Outcome, refused, answered, Fault, none, verdictOf, unlessAt, unless, _then_, after, left}
+use Rattle.doubles.specs.Answer.{refused, answered, Fault, none, verdictOf, unlessAt, unless, _then_, after, left}
 use Rattle.doubles.specs.declared.Refusal.{Refusal}
 use Rattle.doubles.specs.declared.Verdict.{Verdict}
 use Rattle.doubles.specs.declared.Verdict.the-variants as Verdict

@@ -9,7 +9,7 @@ use borrow.Author.Tests.{ne-eqb}
 use lib.Dec.{leb}
 use lib.Ieee.{Float, nan, lt, le, eq, ofBits}
 use Rattle.doubles.specs.Num.{_and_}
-use Rattle.doubles.specs.Answer.{Outcome, refused, answered, Fault, none, unlessAt, _then_}
+use Rattle.doubles.specs.Answer.{Outcome, refused, Fault, none, unlessAt, _then_}
 use Rattle.doubles.specs.declared.Refusal.{Refusal}
 use Rattle.penalties.specs.Penalty.{alphaLegal, ratioLegal, secondLegal, penaltyFault}
 use Rattle.penalties.proofs.Numbers.{prox-of-nan}
