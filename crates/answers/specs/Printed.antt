@@ -3,24 +3,29 @@ use mathlib.Core.List.{List}
 use Prim.Native.Nat.{ℕ}
 use lib.Dec.{leb}
 use lib.ListN.{length, take, replicate}
+use lib.Ieee.{Float}
 use Rattle.doubles.specs.Num.{#0, pick}
 use Rattle.doubles.specs.Buffer.{put}
 use Rattle.doubles.specs.Answer.{Outcome, refused, answered}
-use Rattle.definition.specs.Call.{Lent, lent, fitCall, fitLeft}
+use Rattle.definition.specs.Call.{Lent, lent, answer, buffers}
+use Rattle.definition.specs.Pair.{orderedEnd}
 use Rattle.definition.specs.declared.Report.{Report}
 use Rattle.files.specs.Call.{Problem, parsed}
 use Rattle.listings.specs.Listing.{refusedLine, listed}
 
--- what the program lends to a fit: room for its largest sizes, n = 256, p = 32 and K = 10
-abbrev pub lentPlaces : Lent
-lentPlaces = lent (replicate 32 #0) (replicate 256 #0) (replicate 32 0) (replicate 1056 #0)
+-- what the program lends: room for its largest sizes, n = 256, p = 32 and K = 10
+abbrev pub preparedPlaces : List Float
+preparedPlaces = replicate 64 #0
 
--- its answer, and what it leaves in these places
+abbrev pub lentPlaces : Lent
+lentPlaces = lent (replicate 32 #0) (replicate 256 #0) (replicate 32 0) (replicate 992 #0)
+
+-- it prepares and solves, in document 01's order: the answer, and what is left in these places
 unfoldable pub problemFit : Problem → Outcome Report
-problemFit P = fitCall (P .given) (P .settings) lentPlaces
+problemFit P = answer (P .settings) (orderedEnd (P .given) (P .settings) preparedPlaces lentPlaces)
 
 unfoldable pub problemLeft : Problem → Lent
-problemLeft P = fitLeft (P .given) (P .settings) lentPlaces
+problemLeft P = buffers (P .given .shape) (P .settings) lentPlaces (orderedEnd (P .given) (P .settings) preparedPlaces lentPlaces)
 
 abbrev pub printedFor : Outcome Problem → List ℕ
 printedFor (refused number place) = refusedLine number place

@@ -12,18 +12,11 @@ use Rattle.doubles.specs.Buffer.{put}
 use Rattle.doubles.specs.Answer.{Outcome, Fault, unless, after, left}
 use Rattle.designs.specs.Design.{prepared, gradient, fullGradient, datafit, alphaMax, dots, moved, extrapolated}
 use Rattle.designs.specs.Given.{Given, designOf}
-use Rattle.designs.specs.Checks.{numbers, admitted, targetsFit}
+use Rattle.designs.specs.Checks.{numbers, admitted, targetsFit, roomTwice, preparationFault}
 
--- room for 2p prepared numbers
-abbrev pub roomTwice : ℕ → List Float → Bool
-roomTwice p l = leb (p + p) (length l)
-
--- ---- initialize: constants and X'y
-unfoldable pub initializeFault : Given → List Float → Fault
-initializeFault g buf = admitted g (targetsFit g) (roomTwice (g .shape .p) buf)
-
+-- ---- initialize: constants and X'y, where `preparationFault` finds nothing
 unfoldable pub initialized : Given → List Float → List Float
-initialized g buf = left (initializeFault g buf) (put buf 0 (prepared (designOf g) (g .targets))) buf
+initialized g buf = left (preparationFault g buf) (put buf 0 (prepared (designOf g) (g .targets))) buf
 
 -- ---- gradient_j: "a feature number at or above p is 1"; no targets, as in all calls below that are given none
 unfoldable pub gradientFault : Given → List Float → List Float → ℕ → Fault

@@ -2,6 +2,7 @@
 ghost use mathlib.Core.Path.{_≡_};
 ghost use Rattle.doubles.specs.Answer.{numberOf};
 ghost use Rattle.designs.specs.Given.{given};
+ghost use Rattle.designs.specs.Checks as checks';
 ghost use Rattle.datafits.specs.Calls as calls;
 use designs::Shape;
 use designs::inner::admit;
@@ -10,7 +11,7 @@ use doubles::Verdict;
 
 // Whether a buffer has 2p places. (2p itself may be more than a usize holds.)
 pub fn room_twice(p: usize, buf: &[f64]) -> bool
-    ensures { λ r. ⌜ r ≡ calls.roomTwice p (now (buf .entry)) ⌝ }
+    ensures { λ r. ⌜ r ≡ checks'.roomTwice p (now (buf .entry)) ⌝ }
 {
     p <= buf.len() / 2
 }

@@ -5,6 +5,7 @@ ghost use mathlib.Core.Path.{_≡_};
 ghost use Rattle.doubles.specs.Answer.{numberOf, verdictOf};
 ghost use Rattle.designs.specs.Design as def;
 ghost use Rattle.designs.specs.Given.{given};
+ghost use Rattle.designs.specs.Checks as checks';
 ghost use Rattle.datafits.specs.Calls as calls;
 use designs::Feature;
 use designs::Layout;
@@ -27,7 +28,7 @@ pub fn initialize(
     prepared: &mut [f64],
 ) -> Verdict
     ensures { λ r. ⌜ (let g = given shape (now (starts .entry)) (now (rows .entry)) (now (values .entry)) (now (y .entry)) in
-        (verdictOf r ≡ calls.initializeFault g (now (prepared .entry)))
+        (verdictOf r ≡ checks'.preparationFault g (now (prepared .entry)))
         × (now (prepared .exit) ≡ calls.initialized g (now (prepared .entry)))) ⌝ }
 {
     let fits = y.len() == shape.n;

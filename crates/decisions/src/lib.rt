@@ -1,17 +1,19 @@
-// What a call and its run decide by: the settings' ranges and the room they ask for, whether columns are usable, when epochs are checked and when
-// they are enough, and the status.
+// What a call and its run decide by: sizes, the settings' ranges and the room they ask for, whether the prepared numbers may be used, when epochs
+// are checked and when they are enough, and the status.
 ghost use mathlib.Core.Path.{_≡_};
 ghost use Prim.Native.Nat.{_+_, _≤_};
 ghost use lib.Ieee.{le, lt};
 ghost use lib.ListN.{length};
 ghost use Rattle.doubles.specs.Num as num;
-ghost use Rattle.doubles.specs.Steps.{all};
 ghost use Rattle.doubles.specs.Answer.{none, verdictOf};
+ghost use Rattle.designs.specs.Given.{given};
 ghost use Rattle.definition.specs.WorkingSet as set';
 ghost use Rattle.definition.specs.Run as def;
+ghost use Rattle.definition.specs.Preparation as prep;
 ghost use Rattle.definition.specs.Call as call;
 use definition::Settings;
 use designs::Shape;
+use designs::inner::sizes_agree;
 use doubles::Verdict;
 use doubles::inner::both;
 use doubles::inner::refused;
@@ -60,22 +62,41 @@ pub fn check_settings(settings: Settings) -> Verdict
     check_range(penalty)
 }
 
-// 3p, or (2K+5)·p + n with extrapolation.
+// 1, then the settings' 2: what a solve tests before it looks at any room.
+pub fn check_early(
+    shape: Shape,
+    starts: &[u32],
+    rows: &[u32],
+    values: &[f64],
+    y: &[f64],
+    settings: Settings,
+) -> Verdict
+    ensures { λ r. ⌜ (let g = given shape (now (starts .entry)) (now (rows .entry)) (now (values .entry)) (now (y .entry)) in
+        verdictOf r ≡ call.earlyFault g settings) ⌝ }
+{
+    let fits = y.len() == shape.n;
+    if both(sizes_agree(shape, starts, rows, values), fits) {} else {
+        return refused(1, 0);
+    }
+    check_settings(settings)
+}
+
+// p, or (2K+3)·p + n with extrapolation.
 pub fn scratch_room(shape: Shape, settings: Settings) -> usize
     requires { ⌜ (shape .n ≤ 65536) × (shape .p ≤ 8192) × (call.settingsFault settings ≡ none) ⌝ }
     ensures { λ r. ⌜ r ≡ call.scratchRoom shape settings ⌝ }
 {
     if settings.extrapolate {
-        return (2 * settings.depth + 5) * shape.p + shape.n;
+        return (2 * settings.depth + 3) * shape.p + shape.n;
     }
-    3 * shape.p
+    shape.p
 }
 
-// ---- before the run
+// ---- before the run: p constants, then the p entries of X'y
 
 // Whether a constant, its inverse if it is not zero, and an entry of X'y are finite.
 fn is_usable_at(constant: f64, xty: f64) -> bool
-    ensures { λ r. ⌜ r ≡ call.usable constant xty ⌝ }
+    ensures { λ r. ⌜ r ≡ prep.usable constant xty ⌝ }
 {
     if is_finite(constant) {} else {
         return false;
@@ -92,7 +113,7 @@ fn is_usable_at(constant: f64, xty: f64) -> bool
 // Whether all columns are usable.
 pub fn is_usable(prepared: &[f64], p: usize) -> bool
     requires { ⌜ (p ≤ 8192) × (length (now prepared) ≡ p + p) ⌝ }
-    ensures { λ r. ⌜ r ≡ all (λ j. call.usable (num.at (now (prepared .entry)) j) (num.at (now (prepared .entry)) (p + j))) p ⌝ }
+    ensures { λ r. ⌜ r ≡ prep.allUsable p (now (prepared .entry)) ⌝ }
 {
     let mut j = 0;
     while j < p {
@@ -102,6 +123,42 @@ pub fn is_usable(prepared: &[f64], p: usize) -> bool
         j += 1;
     }
     true
+}
+
+// Whether a column's numbers may be used in a run: the constant is not negative besides.
+fn is_acceptable(constant: f64, xty: f64) -> bool
+    ensures { λ r. ⌜ r ≡ call.acceptable constant xty ⌝ }
+{
+    if is_usable_at(constant, xty) {} else {
+        return false;
+    }
+    if constant < 0.0 {
+        return false;
+    }
+    true
+}
+
+// Refusal 10 at a column.
+fn ten_at(j: usize) -> Verdict
+    requires { ⌜ j ≤ 8192 ⌝ }
+    ensures { λ r. ⌜ verdictOf r ≡ Rattle.doubles.specs.Answer.refused 10 j ⌝ }
+{
+    refused(10, j)
+}
+
+// 10, at the first column whose numbers may not be used; places beyond 2p are not looked at.
+pub fn check_handed(prepared: &[f64], p: usize) -> Verdict
+    requires { ⌜ (p ≤ 8192) × (p + p ≤ length (now prepared)) ⌝ }
+    ensures { λ r. ⌜ verdictOf r ≡ call.handedFault p (now (prepared .entry)) ⌝ }
+{
+    let mut j = 0;
+    while j < p {
+        if is_acceptable(prepared[j], prepared[p + j]) {} else {
+            return ten_at(j);
+        }
+        j += 1;
+    }
+    Verdict::Fine
 }
 
 // The start size, capped at p.

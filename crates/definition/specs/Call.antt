@@ -1,22 +1,24 @@
--- A whole call: "Refusals 1 to 6 .. change no lent buffer. Refusal 7 leaves the p weights, n fit entries and used scratch (all its room) at +0 and the p
--- indices at 0. A completed run leaves used scratch and indices at zero too."
-use mathlib.Core.Bool.{Bool, true}
+-- The solve of request 5: it "tests 10 after 6, changing nothing", and runs with the numbers handed to it. "Refusals 1 to 6 .. change no lent buffer.
+-- Refusal 7 leaves the p weights, n fit entries and used scratch (all its room) at +0 and the p indices at 0. A completed run leaves used scratch and
+-- indices at zero too."
+use mathlib.Core.Bool.{Bool, true, not}
 use mathlib.Core.List.{List}
 use Prim.Native.Nat.{ℕ, _+_, _*_}
 use lib.Dec.{leb}
-use lib.ListN.{length}
-use lib.Ieee.{Float, eq, le}
-use Rattle.doubles.specs.Num.{_⊘_, #0, #1, at, finite, pick, _and_, _or_}
-use Rattle.doubles.specs.Steps.{all, tab, Stage, going, stopped, bad}
+use lib.ListN.{length, take}
+use lib.Ieee.{Float, lt, le}
+use Rattle.doubles.specs.Num.{#0, at, pick, _and_}
+use Rattle.doubles.specs.Steps.{tab, zeros, Stage, going, stopped, bad}
 use Rattle.doubles.specs.Buffer.{put}
-use Rattle.doubles.specs.Answer.{Outcome, refused, answered, Fault, unlessAt, unless, _then_}
+use Rattle.doubles.specs.Answer.{Outcome, refused, answered, Fault, none, unlessAt, unless, _then_}
 use Rattle.penalties.specs.Penalty.{alphaLegal, penaltyFault}
-use Rattle.designs.specs.Design.{prepared}
-use Rattle.designs.specs.Given.{Given, designOf}
-use Rattle.designs.specs.Checks.{sizes, sizedFault, targetsFit}
+use Rattle.designs.specs.Given.{Given}
+use Rattle.designs.specs.Search.{firstOf, mark}
+use Rattle.designs.specs.Checks.{told, sizes, sizedFault, targetsFit, roomTwice}
 use Rattle.designs.specs.declared.Shape.{Shape}
-use Rattle.definition.specs.Epoch.{Task, task, constant}
+use Rattle.definition.specs.Epoch.{Task, task}
 use Rattle.definition.specs.Run.{State, run}
+use Rattle.definition.specs.Preparation.{usable}
 use Rattle.definition.specs.declared.Settings.{Settings}
 use Rattle.definition.specs.declared.Report.{Report}
 use Rattle.definition.specs.declared.Fit.{Fit}
@@ -41,9 +43,10 @@ settingsFault S =
     (unlessAt (alphaLegal (S .tolerance)) 2 4
     (penaltyFault (S .penalty))))))
 
--- ---- 3: "p weights, n fit entries, p indices, and float scratch 3p, or (2K+5)·p + n with extrapolation"
+-- ---- 3: "p weights, n fit entries, p indices, and float scratch 3p, or (2K+5)·p + n with extrapolation"; "Room for the prepared numbers (2p) leaves the
+-- scratch"
 unfoldable pub scratchRoom : Shape → Settings → ℕ
-scratchRoom s S = pick (S .extrapolate) ((2 * S .depth + 5) * s .p + s .n) (3 * s .p)
+scratchRoom s S = pick (S .extrapolate) ((2 * S .depth + 3) * s .p + s .n) (s .p)
 
 -- the lent buffers, before and after
 pub record Lent : Type 0 where
@@ -59,11 +62,30 @@ unfoldable pub roomy : Shape → Settings → Lent → Bool
 roomy s S b =
     leb (s .p) (length (b .weights)) and leb (s .n) (length (b .fit)) and leb (s .p) (length (b .indices)) and leb (scratchRoom s S) (length (b .scratch))
 
--- 1, then the settings' 2, then 3 to 6
-unfoldable pub fitFault : Given → Settings → Lent → Fault
-fitFault g S b =
-    unless (sizes (g .shape) (g .starts) (g .rows) (g .values) and targetsFit g) 1
-    (settingsFault S then sizedFault g (roomy (g .shape) S b))
+-- ---- 10: "a prepared number not finite, a negative constant, or a nonzero one with an inverse not finite"
+unfoldable pub acceptable : Float → Float → Bool
+acceptable constant xty = usable constant xty and not (lt constant #0)
+
+-- of column j of the numbers handed over
+abbrev pub acceptableAt : ℕ → List Float → ℕ → Bool
+acceptableAt p handed j = acceptable (at handed j) (at handed (p + j))
+
+-- "place: first such column"
+unfoldable pub handedFault : ℕ → List Float → Fault
+handedFault p handed = told 10 (firstOf (λ j. mark (not (acceptableAt p handed j)) j) p) none
+
+-- ---- the tests in their order
+-- 1, then the settings' 2
+unfoldable pub earlyFault : Given → Settings → Fault
+earlyFault g S = unless (sizes (g .shape) (g .starts) (g .rows) (g .values) and targetsFit g) 1 (settingsFault S)
+
+-- 1 to 6
+unfoldable pub solveTests : Given → Settings → List Float → Lent → Fault
+solveTests g S handed b = earlyFault g S then sizedFault g (roomTwice (g .shape .p) handed and roomy (g .shape) S b)
+
+-- "the solve tests 10 after 6"
+unfoldable pub solveFault : Given → Settings → List Float → Lent → Fault
+solveFault g S handed b = solveTests g S handed b then handedFault (g .shape .p) handed
 
 -- ---- how a call ends
 -- refused before its run, and no lent buffer is touched; given up in its run; or done
@@ -78,32 +100,20 @@ concluded (stopped s) = done s
 concluded (going s) = givenUp 7 0
 concluded bad = givenUp 7 0
 
--- ---- 7 "for all columns first": "a Lipschitz constant, the inverse of a nonzero one, X'y entry"
-unfoldable pub usable : Float → Float → Bool
-usable constant xty = finite constant and (eq constant #0 or finite (#1 ⊘ constant)) and finite xty
-
--- of column j
-abbrev pub usableAt : Task → ℕ → Bool
-usableAt T j = usable (constant T j) (at (T .prepared) (T .p + j))
-
 unfoldable pub solved : Task → List Float → Settings → End
-solved T y S = pick (all (usableAt T) (T .p)) (concluded (run T y S)) (givenUp 7 0)
+solved T y S = concluded (run T y S)
 
--- a preparation, and a solve that uses it
-abbrev pub taskOf : Given → Settings → Task
-taskOf g S = task (g .shape) (g .starts) (g .rows) (g .values) (S .penalty) (prepared (designOf g) (g .targets))
-
-unfoldable pub fitted : Given → Settings → End
-fitted g S = solved (taskOf g S) (g .targets) S
+-- "On any numbers handed to it, a solve answers as the definition run with those numbers": their first 2p
+abbrev pub taskOf : Given → Settings → List Float → Task
+taskOf g S handed = task (g .shape) (g .starts) (g .rows) (g .values) (S .penalty) (take (g .shape .p + g .shape .p) handed)
 
 -- what the tests refuse is not run
 abbrev pub behind : Fault → End → End
 behind (answered u) e = e
 behind (refused number place) e = untouched number place
 
--- the whole call
-unfoldable pub fitEnd : Given → Settings → Lent → End
-fitEnd g S b = behind (fitFault g S b) (fitted g S)
+unfoldable pub solveEnd : Given → Settings → List Float → Lent → End
+solveEnd g S handed b = behind (solveFault g S handed b) (solved (taskOf g S handed) (g .targets) S)
 
 -- ---- the answer
 -- "Status is 1 (met) if violation ≤ tolerance, else 2 (spent)"
@@ -127,9 +137,6 @@ answer S (givenUp number place) = refused number place
 answer S (done s) = answered (reportOf S s)
 
 -- ---- the buffers
-abbrev pub zeros : ℕ → List Float
-zeros n = tab (λ i. #0) n
-
 -- their room as a run leaves it that was begun: weights and fit, then indices and scratch at zero
 abbrev pub filled : Shape → Settings → Lent → List Float → List Float → Lent
 filled s S b w fit = record {
@@ -144,8 +151,8 @@ buffers s S b (untouched number place) = b
 buffers s S b (givenUp number place) = filled s S b (zeros (s .p)) (zeros (s .n))
 buffers s S b (done q) = filled s S b (q .inner .point .weights) (q .inner .point .fit)
 
-unfoldable pub fitCall : Given → Settings → Lent → Outcome Report
-fitCall g S b = answer S (fitEnd g S b)
+unfoldable pub solveCall : Given → Settings → List Float → Lent → Outcome Report
+solveCall g S handed b = answer S (solveEnd g S handed b)
 
-unfoldable pub fitLeft : Given → Settings → Lent → Lent
-fitLeft g S b = buffers (g .shape) S b (fitEnd g S b)
+unfoldable pub solveLeft : Given → Settings → List Float → Lent → Lent
+solveLeft g S handed b = buffers (g .shape) S b (solveEnd g S handed b)

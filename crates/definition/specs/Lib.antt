@@ -3,4 +3,6 @@ pub mod WorkingSet
 pub mod Epoch
 pub mod Extrapolation
 pub mod Run
+pub mod Preparation
 pub mod Call
+pub mod Pair

@@ -87,6 +87,14 @@ admitted g fits room = unless (sizes (g .shape) (g .starts) (g .rows) (g .values
 abbrev pub targetsFit : Given → Bool
 targetsFit g = eqb (length (g .targets)) (g .shape .n)
 
+-- room for 2p prepared numbers
+abbrev pub roomTwice : ℕ → List Float → Bool
+roomTwice p l = leb (p + p) (length l)
+
+-- the tests of a call that prepares them: 1, 3, 4, 5, 6
+unfoldable pub preparationFault : Given → List Float → Fault
+preparationFault g buf = admitted g (targetsFit g) (roomTwice (g .shape .p) buf)
+
 -- the public check
 unfoldable pub checkCall : Given → Fault
 checkCall g = admitted g (targetsFit g) true

@@ -26,6 +26,10 @@ largest t n = largestFrom (inf true) t n
 abbrev pub tab : {A : Type 0} → (ℕ → A) → ℕ → List A
 tab f n = steps (λ i l. l ++ (f i ∷ [])) n []
 
+-- n times +0
+abbrev pub zeros : ℕ → List Float
+zeros n = tab (λ i. #0) n
+
 -- whether g holds of 0 .. n - 1
 abbrev pub all : (ℕ → Bool) → ℕ → Bool
 all g n = steps (λ i b. b and g i) n true

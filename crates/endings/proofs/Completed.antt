@@ -9,6 +9,7 @@ use Rattle.doubles.specs.Num.{at, finite, pick, _or_}
 use Rattle.doubles.specs.Steps.{Stage, going, stopped, bad, andThen}
 use Rattle.doubles.specs.Answer.{refused, answered, Fault}
 use Rattle.doubles.proofs.Laws.Choice.{and-both}
+use Rattle.doubles.proofs.Laws.Verdict.{then-none}
 use Rattle.doubles.proofs.Laws.Steps.{all-each}
 use Rattle.doubles.proofs.Laws.Finite.{largest-finite}
 use Rattle.doubles.proofs.Laws.Ends.{last-turn, going≢stopped, stopped≢bad, refused≢answered}
@@ -16,8 +17,8 @@ use Rattle.designs.specs.Given.{Given}
 use Rattle.designs.proofs.Laws.Layouts.{samples}
 use Rattle.definition.specs.Epoch.{Task, violationOf, known, allKnown, worst}
 use Rattle.definition.specs.Run.{Inner, epochs, State, chosenSet, iteration, ends, turn, start, run}
-use Rattle.definition.specs.Call.{Lent, fitFault, End, untouched, givenUp, done, solved, taskOf, fitted, behind, fitEnd}
-use Rattle.definition.specs.Call.{reportOf, answer, buffers, fitCall, fitLeft}
+use Rattle.definition.specs.Call.{Lent, handedFault, solveTests, solveFault, End, untouched, givenUp, done, solved, taskOf, behind, solveEnd}
+use Rattle.definition.specs.Call.{reportOf, answer, buffers, solveCall, solveLeft}
 use Rattle.definition.specs.declared.Settings.{Settings}
 use Rattle.definition.specs.declared.Report.{Report}
 use Rattle.definition.proofs.Laws.Ends.{begun, solved-done}
@@ -85,7 +86,7 @@ module _ (T : Task) (y : List Float) (S : Settings) where
     solved-completed : (e : State) → solved T y S ≡ done e → Completed (T .n) (T .p) e
     solved-completed e r = run-completed e (solved-done T y S e r)
 
--- ---- a whole call
+-- ---- a solve, with its tests
 finite-left : (n p : ℕ) (w fit w' fit' : List Float) (v : Float) → Finite n p w fit v
     → ((j : ℕ) → j < p → at w' j ≡ at w j) → ((i : ℕ) → i < n → at fit' i ≡ at fit i) → Finite n p w' fit' v
 finite-left n p w fit w' fit' v h k l = record {
@@ -95,24 +96,25 @@ finite-left n p w fit w' fit' v h k l = record {
   largest = h .largest;
 }
 
-module _ (g : Given) (S : Settings) (b : Lent) where
-  call-run : (e : State) → fitEnd g S b ≡ done e → Completed (g .shape .n) (g .shape .p) e
-  unfolding fitEnd fitted
-  call-run e = go (fitFault g S b) refl
+module _ (g : Given) (S : Settings) (handed : List Float) (b : Lent) where
+  call-run : (e : State) → solveEnd g S handed b ≡ done e → Completed (g .shape .n) (g .shape .p) e
+  unfolding solveEnd solveFault
+  call-run e = go (solveFault g S handed b) refl
     where
-      go : (f : Fault) → fitFault g S b ≡ f → behind f (fitted g S) ≡ done e → Completed (g .shape .n) (g .shape .p) e
+      go : (f : Fault) → solveFault g S handed b ≡ f → behind f (solved (taskOf g S handed) (g .targets) S) ≡ done e → Completed (g .shape .n) (g .shape .p) e
       go (answered u) h r =
           let s = g .shape in
-          solved-completed (taskOf g S) (g .targets) S (passed g S b h .1 .sized .wide)
+          let t = then-none (solveTests g S handed b) (handedFault (s .p) handed) h .0 in
+          solved-completed (taskOf g S handed) (g .targets) S (passed g S handed b t .1 .sized .wide)
           (samples (s .layout) (s .n) (s .p) (g .starts) (g .rows) (g .values)) e r
       go (refused number place) h r = absurd (false≢true (ap begun r))
 
-  call-left : (r : Report) → fitCall g S b ≡ answered r
-      → Finite (g .shape .n) (g .shape .p) (fitLeft g S b .weights) (fitLeft g S b .fit) (r .violation)
-  unfolding fitCall fitLeft reportOf
-  call-left r = go (fitEnd g S b) refl
+  call-left : (r : Report) → solveCall g S handed b ≡ answered r
+      → Finite (g .shape .n) (g .shape .p) (solveLeft g S handed b .weights) (solveLeft g S handed b .fit) (r .violation)
+  unfolding solveCall solveLeft reportOf
+  call-left r = go (solveEnd g S handed b) refl
     where
-      go : (x : End) → fitEnd g S b ≡ x → answer S x ≡ answered r
+      go : (x : End) → solveEnd g S handed b ≡ x → answer S x ≡ answered r
           → Finite (g .shape .n) (g .shape .p) (buffers (g .shape) S b x .weights) (buffers (g .shape) S b x .fit) (r .violation)
       go (done e) q a =
           let c = call-run e q in
@@ -125,5 +127,5 @@ module _ (g : Given) (S : Settings) (b : Lent) where
       go (givenUp number place) q a = absurd (refused≢answered a)
       go (untouched number place) q a = absurd (refused≢answered a)
 
-  pub completed : CompletedCall g S b
+  pub completed : CompletedCall g S handed b
   completed = record { run = call-run; left = call-left }

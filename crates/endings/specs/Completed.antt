@@ -11,7 +11,7 @@ use Rattle.doubles.specs.Sign.{negzero}
 use Rattle.doubles.specs.Answer.{answered}
 use Rattle.designs.specs.Given.{Given}
 use Rattle.definition.specs.Run.{State}
-use Rattle.definition.specs.Call.{Lent, done, fitEnd, fitCall, fitLeft}
+use Rattle.definition.specs.Call.{Lent, done, solveEnd, solveCall, solveLeft}
 use Rattle.definition.specs.declared.Settings.{Settings}
 use Rattle.definition.specs.declared.Report.{Report}
 
@@ -28,8 +28,8 @@ pub record Completed (n p : ℕ) (s : State) : Type 0 where
   pub fit : length (s .inner .point .fit) ≡ n
   pub numbers : Finite n p (s .inner .point .weights) (s .inner .point .fit) (s .violation)
 
--- of a whole call: the state that it is done at, and what it answers and leaves in the first p weights and n fit entries
-pub record CompletedCall (g : Given) (S : Settings) (b : Lent) : Type 0 where
-  pub run : (e : State) → fitEnd g S b ≡ done e → Completed (g .shape .n) (g .shape .p) e
-  pub left : (r : Report) → fitCall g S b ≡ answered r
-      → Finite (g .shape .n) (g .shape .p) (fitLeft g S b .weights) (fitLeft g S b .fit) (r .violation)
+-- of a solve on any numbers handed to it: the state that it is done at, and what it answers and leaves in the first p weights and n fit entries
+pub record CompletedCall (g : Given) (S : Settings) (handed : List Float) (b : Lent) : Type 0 where
+  pub run : (e : State) → solveEnd g S handed b ≡ done e → Completed (g .shape .n) (g .shape .p) e
+  pub left : (r : Report) → solveCall g S handed b ≡ answered r
+      → Finite (g .shape .n) (g .shape .p) (solveLeft g S handed b .weights) (solveLeft g S handed b .fit) (r .violation)

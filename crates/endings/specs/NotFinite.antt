@@ -1,5 +1,5 @@
 -- "7: during the run: a Lipschitz constant, the inverse of a nonzero one, X'y entry (these for all columns first), gradient, violation, new weight or
--- changed fit entry is not finite": which numbers these are, and where a run comes to them.
+-- changed fit entry is not finite": which numbers these are, and where a run comes to them. Since request 5 the first three are the preparation's.
 use mathlib.Core.Path.{_≡_}
 use mathlib.Core.Bool.{true, false}
 use mathlib.Core.List.{List}
@@ -11,10 +11,12 @@ use Rattle.doubles.specs.Steps.{going, upto, over}
 use Rattle.doubles.specs.Answer.{refused, answered, none}
 use Rattle.designs.specs.Design.{moved}
 use Rattle.designs.specs.Given.{Given}
+use Rattle.designs.specs.Checks.{preparationFault}
 use Rattle.definition.specs.Epoch as Epoch
 use Rattle.definition.specs.Epoch.{Task, gradientOf, violationOf, allKnown, worst, Point, newWeight, visit, visits}
 use Rattle.definition.specs.Run.{Inner, accelerated, checks, epoch, State, chosenSet, turn, start, run}
-use Rattle.definition.specs.Call.{Lent, fitFault, givenUp, usableAt, solved, taskOf, fitCall}
+use Rattle.definition.specs.Preparation.{preparedOf, prepareCall}
+use Rattle.definition.specs.Call.{Lent, solveFault, givenUp, solved, taskOf, solveCall}
 use Rattle.definition.specs.declared.Settings.{Settings}
 use Rattle.definition.specs.declared.Report.{Report}
 
@@ -34,9 +36,8 @@ movedFit T q j = moved (T .X) j (difference T q j) (q .fit)
 
 module _ (T : Task) (y : List Float) (S : Settings) where
   -- ---- where the run comes to
-  -- turn t begins at state s; the columns were looked at before: "these for all columns first"
+  -- turn t begins at state s
   pub record Turns (t : ℕ) (s : State) : Type 0 where
-    pub columns : (j : ℕ) → j < T .p → usableAt T j ≡ true
     pub inside : t ≤ S .iterations
     pub reached : upto (turn T y S) t (start T S) ≡ going s
 
@@ -76,10 +77,6 @@ module _ (T : Task) (y : List Float) (S : Settings) where
 
   -- ---- the number that is not finite
   pub data NotFinite : Type 0 where
-    -- "a Lipschitz constant, the inverse of a nonzero one, X'y entry"
-    constant : (j : ℕ) → j < T .p → finite (Epoch.constant T j) ≡ false → NotFinite
-    inverse : (j : ℕ) → j < T .p → eq (Epoch.constant T j) #0 ≡ false → finite (#1 ⊘ Epoch.constant T j) ≡ false → NotFinite
-    xty : (j : ℕ) → j < T .p → finite (at (T .prepared) (T .p + j)) ≡ false → NotFinite
     -- "gradient, violation"
     gradient : {q : Point} {j : ℕ} → Looked q j → finite (gradientOf T (q .fit) j) ≡ false → NotFinite
     violation : {q : Point} {j : ℕ} → Checked q j → finite (violationOf T (q .weights) (q .fit) j) ≡ false → NotFinite
@@ -94,11 +91,27 @@ pub record SolveEnds (T : Task) (y : List Float) (S : Settings) : Type 0 where
   pub only : (number place : ℕ) → solved T y S ≡ givenUp number place → NotFinite T y S
   pub whenever : NotFinite T y S → solved T y S ≡ givenUp 7 0
 
--- refusal 7 of a whole call
-pub record Seven (g : Given) (S : Settings) (b : Lent) : Type 0 where
+-- refusal 7 of a solve, on any numbers handed to it
+pub record Seven (g : Given) (S : Settings) (handed : List Float) (b : Lent) : Type 0 where
   -- it is given only where the run comes to such a number
-  pub only : (place : ℕ) → fitCall g S b ≡ refused 7 place → NotFinite (taskOf g S) (g .targets) S
+  pub only : (place : ℕ) → solveCall g S handed b ≡ refused 7 place → NotFinite (taskOf g S handed) (g .targets) S
+  -- and there always, unless 1 to 6 or 10 came before
+  pub whenever : solveFault g S handed b ≡ none → NotFinite (taskOf g S handed) (g .targets) S → solveCall g S handed b ≡ refused 7 0
+  -- a solve that answers met none
+  pub answers : (r : Report) → solveCall g S handed b ≡ answered r → NotFinite (taskOf g S handed) (g .targets) S → ⊥
+
+-- ---- the preparation
+-- "a Lipschitz constant, the inverse of a nonzero one, X'y entry" is not finite
+pub data NotPrepared (g : Given) : Type 0 where
+  constant : (j : ℕ) → j < g .shape .p → finite (at (preparedOf g) j) ≡ false → NotPrepared g
+  inverse : (j : ℕ) → j < g .shape .p → eq (at (preparedOf g) j) #0 ≡ false → finite (#1 ⊘ at (preparedOf g) j) ≡ false → NotPrepared g
+  xty : (j : ℕ) → j < g .shape .p → finite (at (preparedOf g) (g .shape .p + j)) ≡ false → NotPrepared g
+
+-- refusal 7 of a preparation
+pub record PreparationSeven (g : Given) (buf : List Float) : Type 0 where
+  -- it is given only where one of these is not finite
+  pub only : (place : ℕ) → prepareCall g buf ≡ refused 7 place → NotPrepared g
   -- and there always, unless 1 to 6 came before
-  pub whenever : fitFault g S b ≡ none → NotFinite (taskOf g S) (g .targets) S → fitCall g S b ≡ refused 7 0
-  -- a call that answers met none
-  pub answers : (r : Report) → fitCall g S b ≡ answered r → NotFinite (taskOf g S) (g .targets) S → ⊥
+  pub whenever : preparationFault g buf ≡ none → NotPrepared g → prepareCall g buf ≡ refused 7 0
+  -- a preparation that answers met none
+  pub answers : prepareCall g buf ≡ none → NotPrepared g → ⊥

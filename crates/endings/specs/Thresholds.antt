@@ -1,5 +1,5 @@
--- Request 8: "Fits never reach it with NaN, since constants and their inverses are tested first, so their answers stay the same." In a run only a visit
--- calls a prox; this is what holds of each that is not given up before.
+-- Request 8: "Fits never reach it with NaN, since constants and their inverses are tested first, so their answers stay the same." Since request 5 refusal
+-- 10 of the solve tests them. In a run only a visit calls a prox; this is what holds of each that is not given up before.
 use mathlib.Core.Path.{_≡_}
 use mathlib.Core.Bool.{false}
 use Prim.Native.Nat.{ℕ}

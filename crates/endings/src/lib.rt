@@ -1,1 +1,1 @@
-// How a run ends has no code: the laws are about the definition of a whole call.
+// How a run ends has no code: the laws are about the definitions of the preparation and the solve.

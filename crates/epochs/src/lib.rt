@@ -1,16 +1,16 @@
-// The epochs of one working set, over a design, settings and buffers already tested. Of the scratch, places 0 to 2p hold the constants and
-// X'y, 2p to 3p the violations, and the rest is the extrapolation's.
+// The epochs of one working set, over a design, prepared numbers, settings and buffers already tested. Of the scratch, the first p places hold the
+// violations of all features, and the rest is the extrapolation's.
 ghost use mathlib.Core.Path.{_≡_};
 ghost use mathlib.Core.List.{List};
 ghost use Prim.Native.Nat.{ℕ, _+_, _≤_, _<_};
 ghost use lib.Ieee.{le, lt};
-ghost use lib.ListN.{length, getD, take};
+ghost use lib.ListN.{length, getD};
 ghost use Rattle.doubles.specs.Num as num;
 ghost use Rattle.designs.specs.Given.{given};
 ghost use Rattle.designs.specs.Inner.Sound.{Whole};
 ghost use Rattle.definition.specs.Epoch as ep;
 ghost use Rattle.definition.specs.Run as def;
-ghost use Rattle.extrapolation.specs.Inner.Places.{pointWith, taskIn};
+ghost use Rattle.extrapolation.specs.Inner.Places.{pointWith, taskWith};
 ghost use Rattle.epochs.specs.Inner.Reading as here;
 use decisions::is_check_due;
 use decisions::is_enough;
@@ -85,11 +85,10 @@ fn accelerate(
     requires { ⌜ here.Ready (given shape (now starts) (now rows) (now values) (now y)) settings (now w) (now fit) (now scratch)
         × here.Features shape (now ws) × here.Bounded 1000000000 counts ⌝ }
     ensures { λ r. ⌜ (let g = given shape (now (starts .entry)) (now (rows .entry)) (now (values .entry)) (now (y .entry)) in
-        let T = taskIn g (settings .penalty) (now (scratch .entry)) in
+        let T = taskWith g (settings .penalty) in
         let before = here.innerOf counts (now (w .entry)) (now (fit .entry)) (here.keptHere shape settings (now (scratch .entry))) in
         let after = here.innerOf r (now (w .exit)) (now (fit .exit)) (here.keptHere shape settings (now (scratch .exit))) in
-        (after ≡ def.accelerated T (now (y .entry)) settings (now (ws .entry)) e before (pointWith (now (w .entry)) (now (fit .entry))))
-        × (take (shape .p + shape .p) (now (scratch .exit)) ≡ take (shape .p + shape .p) (now (scratch .entry)))
+        ((q : List _) → after ≡ def.accelerated (T q) (now (y .entry)) settings (now (ws .entry)) e before (pointWith (now (w .entry)) (now (fit .entry))))
         × (r .epochs ≤ counts .epochs + 1)
         × (r .extrapolations ≤ counts .extrapolations + 1)) ⌝ }
 {
@@ -127,6 +126,7 @@ fn run_epoch(
     rows: &[u32],
     values: &[f64],
     y: &[f64],
+    prepared: &[f64],
     settings: Settings,
     outer: f64,
     e: usize,
@@ -137,19 +137,16 @@ fn run_epoch(
     counts: Counts,
 ) -> InnerStep
     requires { ⌜ here.Ready (given shape (now starts) (now rows) (now values) (now y)) settings (now w) (now fit) (now scratch)
-        × here.Features shape (now ws) × here.Bounded 1000000000 counts ⌝ }
+        × (length (now prepared) ≡ shape .p + shape .p) × here.Features shape (now ws) × here.Bounded 1000000000 counts ⌝ }
     ensures { λ r. ⌜ (let g = given shape (now (starts .entry)) (now (rows .entry)) (now (values .entry)) (now (y .entry)) in
-        let T = taskIn g (settings .penalty) (now (scratch .entry)) in
+        let T = taskWith g (settings .penalty) (now (prepared .entry)) in
         let before = here.innerOf counts (now (w .entry)) (now (fit .entry)) (here.keptHere shape settings (now (scratch .entry))) in
         let after = here.innerStage r (now (w .exit)) (now (fit .exit)) (here.keptHere shape settings (now (scratch .exit))) in
         (after ≡ def.epoch T (now (y .entry)) settings (now (ws .entry)) outer e before)
-        × (take (shape .p + shape .p) (now (scratch .exit)) ≡ take (shape .p + shape .p) (now (scratch .entry)))
         × (here.countsOf r counts .epochs ≤ counts .epochs + 1)
         × (here.countsOf r counts .extrapolations ≤ counts .extrapolations + 1)) ⌝ }
 {
-    let twice = shape.p + shape.p;
     let penalty = settings.penalty;
-    let prepared = &scratch[..twice];
     if cd_epoch(shape, starts, rows, values, penalty, prepared, ws, w, fit) {} else {
         return InnerStep::Bad;
     }
@@ -175,7 +172,7 @@ fn run_epoch(
             values,
             settings,
             outer,
-            &scratch[..twice],
+            prepared,
             ws,
             w,
             fit,
@@ -192,6 +189,7 @@ pub fn run_epochs(
     rows: &[u32],
     values: &[f64],
     y: &[f64],
+    prepared: &[f64],
     settings: Settings,
     outer: f64,
     ws: &[u32],
@@ -201,13 +199,12 @@ pub fn run_epochs(
     from: Counts,
 ) -> InnerStep
     requires { ⌜ here.Ready (given shape (now starts) (now rows) (now values) (now y)) settings (now w) (now fit) (now scratch)
-        × here.Features shape (now ws) × here.Bounded 100000000 from ⌝ }
+        × (length (now prepared) ≡ shape .p + shape .p) × here.Features shape (now ws) × here.Bounded 100000000 from ⌝ }
     ensures { λ r. ⌜ (let g = given shape (now (starts .entry)) (now (rows .entry)) (now (values .entry)) (now (y .entry)) in
-        let T = taskIn g (settings .penalty) (now (scratch .entry)) in
+        let T = taskWith g (settings .penalty) (now (prepared .entry)) in
         let before = here.innerOf from (now (w .entry)) (now (fit .entry)) (here.keptHere shape settings (now (scratch .entry))) in
         let after = here.innerStage r (now (w .exit)) (now (fit .exit)) (here.keptHere shape settings (now (scratch .exit))) in
         (after ≡ def.epochs T (now (y .entry)) settings (now (ws .entry)) outer before)
-        × (take (shape .p + shape .p) (now (scratch .exit)) ≡ take (shape .p + shape .p) (now (scratch .entry)))
         × (here.countsOf r from .epochs ≤ from .epochs + 100000)
         × (here.countsOf r from .extrapolations ≤ from .extrapolations + 100000)) ⌝ }
 {
@@ -220,6 +217,7 @@ pub fn run_epochs(
             rows,
             values,
             y,
+            prepared,
             settings,
             outer,
             e,

@@ -8,8 +8,10 @@ use denote.Ref.{RefT, now}
 use Rattle.doubles.proofs.Tight.{coincide}
 use Rattle.definition.specs.Call.{lent}
 use Rattle.plain_numbers.specs.Codes.{Reply, reply, report}
-use Rattle.exports.proofs.koyramutey_fit_dense.Reads as fit-dense-reads
-use Rattle.exports.proofs.koyramutey_fit_csc.Reads as fit-csc-reads
+use Rattle.exports.proofs.koyramutey_prepare_dense.Reads as prepare-dense-reads
+use Rattle.exports.proofs.koyramutey_prepare_csc.Reads as prepare-csc-reads
+use Rattle.exports.proofs.koyramutey_solve_dense.Reads as solve-dense-reads
+use Rattle.exports.proofs.koyramutey_solve_csc.Reads as solve-csc-reads
 use Rattle.exports.proofs.koyramutey_full_grad_dense.Reads as full-grad-reads
 use Rattle.exports.proofs.koyramutey_working_set.Reads as working-set-reads
 use Rattle.exports.proofs.koyramutey_penalty_value.Reads as value-reads
@@ -17,7 +19,7 @@ use Rattle.exports.proofs.koyramutey_penalty_violation.Reads as violati
 use Rattle.exports.proofs.koyramutey_soft_threshold.Reads as soft-threshold-reads
 use Rattle.exports.proofs.koyramutey_prox.Reads as prox-reads
 
--- ---- the two fits
+-- ---- the two solves
 -- the lent parameters that both end with: the buffers, then the report's numbers, then the place
 abbrev Ends : Type 0
 Ends =
@@ -31,13 +33,27 @@ replied number t =
     let numbers = report (now (u .0)) (now (u .1 .0)) (now (u .1 .1 .0)) (now (u .1 .1 .1 .0)) (now (u .1 .1 .1 .1 .0)) in
     reply number (now (u .1 .1 .1 .1 .1 .0)) numbers (lent (now (t .0)) (now (t .1 .0)) (now (t .1 .1 .0)) (now (t .1 .1 .1 .0)))
 
-fit-dense-tight : (κs : _) (a : _) (r r' : _) (s s' : _) → fit-dense-reads.Post κs a r s → fit-dense-reads.Post κs a r' s'
-    → replied r (s .1 .1 .1 .1 .1 .1 .1 .1 .1 .1 .1 .1 .1) ≡ replied r' (s' .1 .1 .1 .1 .1 .1 .1 .1 .1 .1 .1 .1 .1)
-fit-dense-tight κs a r r' s s' p q = coincide p q
+solve-dense-tight : (κs : _) (a : _) (r r' : _) (s s' : _) → solve-dense-reads.Post κs a r s → solve-dense-reads.Post κs a r' s'
+    → replied r (s .1 .1 .1 .1 .1 .1 .1 .1 .1 .1 .1 .1 .1 .1) ≡ replied r' (s' .1 .1 .1 .1 .1 .1 .1 .1 .1 .1 .1 .1 .1 .1)
+solve-dense-tight κs a r r' s s' p q = coincide p q
 
-fit-csc-tight : (κs : _) (a : _) (r r' : _) (s s' : _) → fit-csc-reads.Post κs a r s → fit-csc-reads.Post κs a r' s'
-    → replied r (s .1 .1 .1 .1 .1 .1 .1 .1 .1 .1 .1 .1 .1 .1 .1) ≡ replied r' (s' .1 .1 .1 .1 .1 .1 .1 .1 .1 .1 .1 .1 .1 .1 .1)
-fit-csc-tight κs a r r' s s' p q = coincide p q
+solve-csc-tight : (κs : _) (a : _) (r r' : _) (s s' : _) → solve-csc-reads.Post κs a r s → solve-csc-reads.Post κs a r' s'
+    → replied r (s .1 .1 .1 .1 .1 .1 .1 .1 .1 .1 .1 .1 .1 .1 .1 .1) ≡ replied r' (s' .1 .1 .1 .1 .1 .1 .1 .1 .1 .1 .1 .1 .1 .1 .1 .1)
+solve-csc-tight κs a r r' s s' p q = coincide p q
+
+-- ---- the two preparations
+-- t begins with the prepared numbers, then the place
+prepare-dense-tight : (κs : _) (a : _) (r r' : _) (s s' : _) → prepare-dense-reads.Post κs a r s → prepare-dense-reads.Post κs a r' s'
+    → let t = s .1 .1 .1 .1 in
+    let t' = s' .1 .1 .1 .1 in
+    (r ≡ r') × (now (t .1 .0) ≡ now (t' .1 .0)) × (now (t .0) ≡ now (t' .0))
+prepare-dense-tight κs a r r' s s' p q = (coincide (p .0) (q .0), coincide (p .1) (q .1), coincide (p .2) (q .2))
+
+prepare-csc-tight : (κs : _) (a : _) (r r' : _) (s s' : _) → prepare-csc-reads.Post κs a r s → prepare-csc-reads.Post κs a r' s'
+    → let t = s .1 .1 .1 .1 .1 .1 in
+    let t' = s' .1 .1 .1 .1 .1 .1 in
+    (r ≡ r') × (now (t .1 .0) ≡ now (t' .1 .0)) × (now (t .0) ≡ now (t' .0))
+prepare-csc-tight κs a r r' s s' p q = (coincide (p .0) (q .0), coincide (p .1) (q .1), coincide (p .2) (q .2))
 
 -- ---- the others
 full-grad-dense-tight : (κs : _) (a : _) (r r' : _) (s s' : _) → full-grad-reads.Post κs a r s → full-grad-reads.Post κs a r' s'

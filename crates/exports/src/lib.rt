@@ -7,6 +7,7 @@ ghost use Rattle.penalties.specs.Soft.{soft};
 ghost use Rattle.designs.specs.Design.{denseShape, cscShape, nothing};
 ghost use Rattle.designs.specs.Given.{given};
 ghost use Rattle.datafits.specs.Calls as calls;
+ghost use Rattle.definition.specs.Preparation as prep;
 ghost use Rattle.definition.specs.Call as call;
 ghost use Rattle.worksets.specs.Call as sets;
 ghost use Rattle.plain_numbers.specs.Codes as codes;
@@ -22,20 +23,61 @@ use plain_numbers::tell;
 use plain_numbers::tell_number;
 use plain_numbers::tell_size;
 use plain_numbers::tell_verdict;
-use solvers::coordinate_descent;
+use preparation::prepare;
+use solvers::solve;
 use worksets::construct_ws_from_kkt;
 
-// ---- whole calls
+// ---- prepare once, solve often
 
-// solvers::coordinate_descent of a dense design. `penalty` is 0 for L1, 1 for L1PlusL2 (`second` is its ratio), 2 for MCP (`second` is its
-// gamma); `extrapolate` is 0 for off. The report is left in `status`, `violation`, `sets` (its iterations: working sets built), `passes`
-// (its epochs) and `accepted` (its extrapolations).
+// preparation::prepare of a dense design.
 #[no_mangle]
-pub extern "C" fn koyramutey_fit_dense(
+pub extern "C" fn koyramutey_prepare_dense(
     n: usize,
     p: usize,
     values: &[f64],
     y: &[f64],
+    prepared: &mut [f64],
+    place: &mut usize,
+) -> u32
+    ensures { λ r. ⌜ (let g = given (denseShape n p) nothing nothing (now (values .entry)) (now (y .entry)) in
+        let answer = prep.prepareCall g (now (prepared .entry)) in
+        (r ≡ numberIn answer) × (now (place .exit) ≡ placeIn answer) × (now (prepared .exit) ≡ prep.prepareLeft g (now (prepared .entry)))) ⌝ }
+{
+    let none = [0u32; 0];
+    let verdict = prepare(dense(n, p), &none, &none, values, y, prepared);
+    tell_verdict(verdict, place)
+}
+
+// The same of a CSC design.
+#[no_mangle]
+pub extern "C" fn koyramutey_prepare_csc(
+    n: usize,
+    p: usize,
+    starts: &[u32],
+    rows: &[u32],
+    values: &[f64],
+    y: &[f64],
+    prepared: &mut [f64],
+    place: &mut usize,
+) -> u32
+    ensures { λ r. ⌜ (let g = given (cscShape n p) (now (starts .entry)) (now (rows .entry)) (now (values .entry)) (now (y .entry)) in
+        let answer = prep.prepareCall g (now (prepared .entry)) in
+        (r ≡ numberIn answer) × (now (place .exit) ≡ placeIn answer) × (now (prepared .exit) ≡ prep.prepareLeft g (now (prepared .entry)))) ⌝ }
+{
+    let verdict = prepare(csc(n, p), starts, rows, values, y, prepared);
+    tell_verdict(verdict, place)
+}
+
+// solvers::solve of a dense design. `penalty` is 0 for L1, 1 for L1PlusL2 (`second` is its ratio), 2 for MCP (`second` is its gamma); `extrapolate`
+// is 0 for off. The report is left in `status`, `violation`, `sets` (its iterations: working sets built), `passes` (its epochs) and `accepted` (its
+// extrapolations).
+#[no_mangle]
+pub extern "C" fn koyramutey_solve_dense(
+    n: usize,
+    p: usize,
+    values: &[f64],
+    y: &[f64],
+    prepared: &[f64],
     penalty: u32,
     alpha: f64,
     second: f64,
@@ -62,7 +104,7 @@ pub extern "C" fn koyramutey_fit_dense(
         let old = codes.report (now (status .entry)) (now (violation .entry)) (now (sets .entry)) (now (passes .entry)) (now (accepted .entry)) in
         let new = codes.report (now (status .exit)) (now (violation .exit)) (now (sets .exit)) (now (passes .exit)) (now (accepted .exit)) in
         codes.reply r (now (place .exit)) new (call.lent (now (w .exit)) (now (fit .exit)) (now (indices .exit)) (now (scratch .exit)))
-        ≡ codes.fitReply g settings b old) ⌝ }
+        ≡ codes.solveReply g settings (now (prepared .entry)) b old) ⌝ }
 {
     let none = [0u32; 0];
     let settings = settings_of(
@@ -76,12 +118,13 @@ pub extern "C" fn koyramutey_fit_dense(
         extrapolate,
         depth,
     );
-    let done = coordinate_descent(
+    let done = solve(
         dense(n, p),
         &none,
         &none,
         values,
         y,
+        prepared,
         settings,
         w,
         fit,
@@ -93,13 +136,14 @@ pub extern "C" fn koyramutey_fit_dense(
 
 // The same of a CSC design.
 #[no_mangle]
-pub extern "C" fn koyramutey_fit_csc(
+pub extern "C" fn koyramutey_solve_csc(
     n: usize,
     p: usize,
     starts: &[u32],
     rows: &[u32],
     values: &[f64],
     y: &[f64],
+    prepared: &[f64],
     penalty: u32,
     alpha: f64,
     second: f64,
@@ -126,7 +170,7 @@ pub extern "C" fn koyramutey_fit_csc(
         let old = codes.report (now (status .entry)) (now (violation .entry)) (now (sets .entry)) (now (passes .entry)) (now (accepted .entry)) in
         let new = codes.report (now (status .exit)) (now (violation .exit)) (now (sets .exit)) (now (passes .exit)) (now (accepted .exit)) in
         codes.reply r (now (place .exit)) new (call.lent (now (w .exit)) (now (fit .exit)) (now (indices .exit)) (now (scratch .exit)))
-        ≡ codes.fitReply g settings b old) ⌝ }
+        ≡ codes.solveReply g settings (now (prepared .entry)) b old) ⌝ }
 {
     let settings = settings_of(
         penalty,
@@ -139,12 +183,13 @@ pub extern "C" fn koyramutey_fit_csc(
         extrapolate,
         depth,
     );
-    let done = coordinate_descent(
+    let done = solve(
         csc(n, p),
         starts,
         rows,
         values,
         y,
+        prepared,
         settings,
         w,
         fit,

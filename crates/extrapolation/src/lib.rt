@@ -3,7 +3,8 @@
 ghost use mathlib.Core.Path.{_≡_};
 ghost use Prim.Native.Nat.{ℕ, suc, _+_, _*_, _<_, _≤_};
 ghost use lib.Ieee.{lt};
-ghost use lib.ListN.{length, getD, take};
+ghost use mathlib.Core.List.{List};
+ghost use lib.ListN.{length, getD};
 ghost use Rattle.doubles.specs.Num as num;
 ghost use Rattle.doubles.specs.Steps.{sum};
 ghost use Rattle.doubles.specs.Buffer.{put};
@@ -195,8 +196,8 @@ fn keep(ws: &[u32], w: &[f64], base: usize, kept: &mut [f64])
     }
 }
 
-// Where the parts of the scratch begin that the extrapolation uses: behind constants, X'y and violations come K+1 rows of p places, K rows that
-// stay zero (the differences are taken where they are used), the weights as they were, and the candidate's fit.
+// Where the parts of the scratch begin that the extrapolation uses: behind the violations come K+1 rows of p places, K rows that stay
+// zero (the differences are taken where they are used), the weights as they were, and the candidate's fit.
 pub struct Parts {
     pub kept: usize,
     pub until: usize,
@@ -207,11 +208,11 @@ pub struct Parts {
 
 fn lay_out(n: usize, shape: Kept) -> Parts
     requires { ⌜ (shape .depth ≤ 10) × (shape .p ≤ 8192) × (n ≤ 65536) ⌝ }
-    ensures { λ r. ⌜ (r .kept ≡ 3 * shape .p) × (r .until ≡ r .kept + suc (shape .depth) * shape .p) × (r .old ≡ (2 * shape .depth + 4) * shape .p)
+    ensures { λ r. ⌜ (r .kept ≡ shape .p) × (r .until ≡ r .kept + suc (shape .depth) * shape .p) × (r .old ≡ (2 * shape .depth + 2) * shape .p)
         × (r .fit ≡ r .old + shape .p) × (r .end ≡ r .fit + n) ⌝ }
 {
-    let kept = 3 * shape.p;
-    let old = (2 * shape.depth + 4) * shape.p;
+    let kept = shape.p;
+    let old = (2 * shape.depth + 2) * shape.p;
     let fit = old + shape.p;
     Parts {
         kept: kept,
@@ -297,12 +298,11 @@ fn try_candidate(
 ) -> usize
     requires { ⌜ places.StepReady (given shape (now starts) (now rows) (now values) (now y)) depth (now ws) (now w) (now fit) (now scratch) ⌝ }
     ensures { λ r. ⌜ (let g = given shape (now (starts .entry)) (now (rows .entry)) (now (values .entry)) (now (y .entry)) in
-        let T = places.taskIn g penalty (now (scratch .entry)) in
+        let T = places.taskWith g penalty in
         let kept = places.keptIn shape depth (now (scratch .entry)) in
         let before = places.pointWith (now (w .entry)) (now (fit .entry)) in
-        (places.triedOf r (now (w .exit)) (now (fit .exit)) ≡ places.triedFrom T (now (y .entry)) depth (now (ws .entry)) kept z before)
-        × (places.keptIn shape depth (now (scratch .exit)) ≡ kept)
-        × (take (3 * shape .p) (now (scratch .exit)) ≡ take (3 * shape .p) (now (scratch .entry)))) ⌝ }
+        ((q : List _) → places.triedOf r (now (w .exit)) (now (fit .exit)) ≡ places.triedFrom (T q) (now (y .entry)) depth (now (ws .entry)) kept z before)
+        × (places.keptIn shape depth (now (scratch .exit)) ≡ kept)) ⌝ }
 {
     let kept = Kept {
         depth: depth,
@@ -335,12 +335,11 @@ fn extrapolate(
     requires { ⌜ places.StepReady (given shape (now starts) (now rows) (now values) (now y)) depth (now ws) (now w) (now fit) (now scratch)
         × (depth ≤ shape .p) ⌝ }
     ensures { λ r. ⌜ (let g = given shape (now (starts .entry)) (now (rows .entry)) (now (values .entry)) (now (y .entry)) in
-        let T = places.taskIn g penalty (now (scratch .entry)) in
+        let T = places.taskWith g penalty in
         let kept = places.keptIn shape depth (now (scratch .entry)) in
         let before = places.pointWith (now (w .entry)) (now (fit .entry)) in
-        (places.triedOf r (now (w .exit)) (now (fit .exit)) ≡ ext.extrapolate T (now (y .entry)) depth (now (ws .entry)) kept before)
-        × (places.keptIn shape depth (now (scratch .exit)) ≡ kept)
-        × (take (3 * shape .p) (now (scratch .exit)) ≡ take (3 * shape .p) (now (scratch .entry)))) ⌝ }
+        ((q : List _) → places.triedOf r (now (w .exit)) (now (fit .exit)) ≡ ext.extrapolate (T q) (now (y .entry)) depth (now (ws .entry)) kept before)
+        × (places.keptIn shape depth (now (scratch .exit)) ≡ kept)) ⌝ }
 {
     let kept = Kept {
         depth: depth,
@@ -388,12 +387,11 @@ pub fn anderson_accel(
 ) -> usize
     requires { ⌜ places.StepReady (given shape (now starts) (now rows) (now values) (now y)) depth (now ws) (now w) (now fit) (now scratch) ⌝ }
     ensures { λ r. ⌜ (let g = given shape (now (starts .entry)) (now (rows .entry)) (now (values .entry)) (now (y .entry)) in
-        let T = places.taskIn g penalty (now (scratch .entry)) in
+        let T = places.taskWith g penalty in
         let kept = places.keptThen shape depth e (now (ws .entry)) (now (w .entry)) (now (scratch .entry)) in
         let before = places.pointWith (now (w .entry)) (now (fit .entry)) in
-        (places.triedOf r (now (w .exit)) (now (fit .exit)) ≡ ext.tried T (now (y .entry)) depth e (now (ws .entry)) kept before)
-        × (places.keptIn shape depth (now (scratch .exit)) ≡ kept)
-        × (take (3 * shape .p) (now (scratch .exit)) ≡ take (3 * shape .p) (now (scratch .entry)))) ⌝ }
+        ((q : List _) → places.triedOf r (now (w .exit)) (now (fit .exit)) ≡ ext.tried (T q) (now (y .entry)) depth e (now (ws .entry)) kept before)
+        × (places.keptIn shape depth (now (scratch .exit)) ≡ kept)) ⌝ }
 {
     let row = e % (depth + 1);
     let kept = Kept {

@@ -1,4 +1,4 @@
 -- Laws on the outer loop's definitions.
 pub mod Reached
 pub mod Turns
-pub mod Prepared
+pub mod Cleared

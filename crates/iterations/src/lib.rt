@@ -1,24 +1,23 @@
-// The loops of a run, over a design, settings and buffers already tested: the preparation and the outer iterations. The scratch is laid out
-// as the inner loops have it.
+// The outer iterations of a run, over a design, prepared numbers, settings and buffers already tested. The scratch is laid out as the inner loops
+// have it.
 ghost use mathlib.Core.Path.{_≡_};
 ghost use mathlib.Core.Bool.{true};
 ghost use mathlib.Core.List.{List};
 ghost use Prim.Native.Nat.{ℕ, _+_, _≤_, _<_};
-ghost use lib.ListN.{length, take};
+ghost use lib.ListN.{length};
 ghost use Rattle.doubles.specs.Num as num;
-ghost use Rattle.doubles.specs.Steps.{all, tab};
+ghost use Rattle.doubles.specs.Steps.{tab};
 ghost use Rattle.designs.specs.Given.{given};
 ghost use Rattle.definition.specs.WorkingSet as set';
 ghost use Rattle.definition.specs.Epoch as ep;
 ghost use Rattle.definition.specs.Run as def;
 ghost use Rattle.definition.specs.Call as call;
-ghost use Rattle.extrapolation.specs.Inner.Places.{taskIn};
+ghost use Rattle.extrapolation.specs.Inner.Places.{taskWith};
 ghost use Rattle.epochs.specs.Inner.Reading as inner;
 ghost use Rattle.iterations.specs.Inner.Reading as here;
 ghost use Rattle.iterations.specs.declared.OuterStep.the-variants.{Going};
 ghost use Rattle.iterations.specs.declared.RunEnd.the-variants.{GivenUp};
 use columns::clear;
-use decisions::is_usable;
 use decisions::start_size;
 use definition::Settings;
 use designs::Shape;
@@ -27,7 +26,6 @@ use doubles::is_finite;
 use epochs::Counts;
 use epochs::InnerStep;
 use epochs::run_epochs;
-use passes::prepare;
 use visits::Worst;
 use visits::opt_cond_violation;
 use worksets::inner::construct_ws;
@@ -73,6 +71,7 @@ fn iterate(
     rows: &[u32],
     values: &[f64],
     y: &[f64],
+    prepared: &[f64],
     settings: Settings,
     v: f64,
     w: &mut [f64],
@@ -82,22 +81,21 @@ fn iterate(
     totals: Totals,
 ) -> OuterStep
     requires { ⌜ (let g = given shape (now starts) (now rows) (now values) (now y) in
-        let T = taskIn g (settings .penalty) (now scratch) in
-        inner.Ready g settings (now w) (now fit) (now scratch) × (length (now indices) ≡ shape .p) × here.Totalled 999 totals
+        let T = taskWith g (settings .penalty) (now prepared) in
+        inner.Ready g settings (now w) (now fit) (now scratch) × (length (now prepared) ≡ shape .p + shape .p)
+        × (length (now indices) ≡ shape .p) × here.Totalled 999 totals
         × (here.violationsIn shape (now scratch) ≡ ep.violations T (now w) (now fit)) × (ep.allKnown T (now w) (now fit) ≡ true)) ⌝ }
     ensures { λ r. ⌜ (let g = given shape (now (starts .entry)) (now (rows .entry)) (now (values .entry)) (now (y .entry)) in
-        let T = taskIn g (settings .penalty) (now (scratch .entry)) in
+        let T = taskWith g (settings .penalty) (now (prepared .entry)) in
         let kept = inner.keptHere shape settings (now (scratch .entry)) in
         let before = here.stateOf totals (now (w .entry)) (now (fit .entry)) kept in
         ((sets : List (List ℕ)) → here.shows shape settings r (now (w .exit)) (now (fit .exit)) (now (scratch .exit))
         (def.iteration T (now (y .entry)) settings v (before sets)))
-        × (take (shape .p + shape .p) (now (scratch .exit)) ≡ take (shape .p + shape .p) (now (scratch .entry)))
         × here.Grown totals (here.totalsOf r totals)) ⌝ }
 {
-    let from = shape.p + shape.p;
-    let to = from + shape.p;
-    let start = start_size(settings.start, shape.p);
-    let many = construct_ws(&scratch[from..to], w, start, indices);
+    let p = shape.p;
+    let start = start_size(settings.start, p);
+    let many = construct_ws(&scratch[..p], w, start, indices);
     let ws = &indices[..many];
     let counts = totals.counts;
     match run_epochs(
@@ -106,6 +104,7 @@ fn iterate(
         rows,
         values,
         y,
+        prepared,
         settings,
         v,
         ws,
@@ -139,6 +138,7 @@ fn turn(
     rows: &[u32],
     values: &[f64],
     y: &[f64],
+    prepared: &[f64],
     settings: Settings,
     w: &mut [f64],
     fit: &mut [f64],
@@ -147,18 +147,28 @@ fn turn(
     totals: Totals,
 ) -> OuterStep
     requires { ⌜ inner.Ready (given shape (now starts) (now rows) (now values) (now y)) settings (now w) (now fit) (now scratch)
-        × (length (now indices) ≡ shape .p) × here.Totalled 999 totals ⌝ }
+        × (length (now prepared) ≡ shape .p + shape .p) × (length (now indices) ≡ shape .p) × here.Totalled 999 totals ⌝ }
     ensures { λ r. ⌜ (let g = given shape (now (starts .entry)) (now (rows .entry)) (now (values .entry)) (now (y .entry)) in
-        let T = taskIn g (settings .penalty) (now (scratch .entry)) in
+        let T = taskWith g (settings .penalty) (now (prepared .entry)) in
         let kept = inner.keptHere shape settings (now (scratch .entry)) in
         let before = here.stateOf totals (now (w .entry)) (now (fit .entry)) kept in
         ((t : ℕ) → t < settings .iterations → (sets : List (List ℕ)) → here.shows shape settings r (now (w .exit)) (now (fit .exit)) (now (scratch .exit))
         (def.turn T (now (y .entry)) settings t (before sets)))
-        × (take (shape .p + shape .p) (now (scratch .exit)) ≡ take (shape .p + shape .p) (now (scratch .entry)))
         × here.Grown totals (here.totalsOf r totals)) ⌝ }
 {
+    let p = shape.p;
     let penalty = settings.penalty;
-    match opt_cond_violation(shape, starts, rows, values, penalty, w, fit, scratch) {
+    match opt_cond_violation(
+        shape,
+        starts,
+        rows,
+        values,
+        penalty,
+        prepared,
+        w,
+        fit,
+        &mut scratch[..p],
+    ) {
         Worst::Bad => OuterStep::Bad,
         Worst::Is(v) => {
             if v <= settings.tolerance {
@@ -170,6 +180,7 @@ fn turn(
                 rows,
                 values,
                 y,
+                prepared,
                 settings,
                 v,
                 w,
@@ -199,22 +210,35 @@ fn last_turn(
     rows: &[u32],
     values: &[f64],
     y: &[f64],
+    prepared: &[f64],
     settings: Settings,
     w: &[f64],
     fit: &[f64],
     scratch: &mut [f64],
     totals: Totals,
 ) -> RunEnd
-    requires { ⌜ inner.Ready (given shape (now starts) (now rows) (now values) (now y)) settings (now w) (now fit) (now scratch) ⌝ }
+    requires { ⌜ inner.Ready (given shape (now starts) (now rows) (now values) (now y)) settings (now w) (now fit) (now scratch)
+        × (length (now prepared) ≡ shape .p + shape .p) ⌝ }
     ensures { λ r. ⌜ (let g = given shape (now (starts .entry)) (now (rows .entry)) (now (values .entry)) (now (y .entry)) in
-        let T = taskIn g (settings .penalty) (now (scratch .entry)) in
+        let T = taskWith g (settings .penalty) (now (prepared .entry)) in
         let kept = inner.keptHere shape settings (now (scratch .entry)) in
         let before = here.stateOf totals (now (w .entry)) (now (fit .entry)) kept in
         (sets : List (List ℕ)) → here.showsEnd shape settings r (now (w .entry)) (now (fit .entry)) (now (scratch .exit))
         (call.concluded (def.turn T (now (y .entry)) settings (settings .iterations) (before sets)))) ⌝ }
 {
+    let p = shape.p;
     let penalty = settings.penalty;
-    match opt_cond_violation(shape, starts, rows, values, penalty, w, fit, scratch) {
+    match opt_cond_violation(
+        shape,
+        starts,
+        rows,
+        values,
+        penalty,
+        prepared,
+        w,
+        fit,
+        &mut scratch[..p],
+    ) {
         Worst::Bad => not_finite(),
         Worst::Is(v) => RunEnd::Done(at_violation(v, totals)),
     }
@@ -227,6 +251,7 @@ fn run(
     rows: &[u32],
     values: &[f64],
     y: &[f64],
+    prepared: &[f64],
     settings: Settings,
     w: &mut [f64],
     fit: &mut [f64],
@@ -234,10 +259,10 @@ fn run(
     scratch: &mut [f64],
 ) -> RunEnd
     requires { ⌜ inner.Ready (given shape (now starts) (now rows) (now values) (now y)) settings (now w) (now fit) (now scratch)
-        × (length (now indices) ≡ shape .p) × (now w ≡ tab (λ j. num.#0) (shape .p)) × (now fit ≡ tab (λ i. num.#0) (shape .n))
+        × (length (now prepared) ≡ shape .p + shape .p) × (length (now indices) ≡ shape .p) × (now w ≡ tab (λ j. num.#0) (shape .p)) × (now fit ≡ tab (λ i. num.#0) (shape .n))
         × (inner.keptHere shape settings (now scratch) ≡ here.nothingKept shape settings) ⌝ }
     ensures { λ r. ⌜ (let g = given shape (now (starts .entry)) (now (rows .entry)) (now (values .entry)) (now (y .entry)) in
-        let T = taskIn g (settings .penalty) (now (scratch .entry)) in
+        let T = taskWith g (settings .penalty) (now (prepared .entry)) in
         here.showsEnd shape settings r (now (w .exit)) (now (fit .exit)) (now (scratch .exit))
         (call.concluded (def.run T (now (y .entry)) settings))) ⌝ }
 {
@@ -257,6 +282,7 @@ fn run(
             rows,
             values,
             y,
+            prepared,
             settings,
             w,
             fit,
@@ -276,6 +302,7 @@ fn run(
         rows,
         values,
         y,
+        prepared,
         settings,
         w,
         fit,
@@ -284,15 +311,14 @@ fn run(
     )
 }
 
-// ---- the preparation
-
-// The preparation, then the run that uses it.
-pub fn solve(
+// The run, whatever the buffers hold.
+pub fn start_run(
     shape: Shape,
     starts: &[u32],
     rows: &[u32],
     values: &[f64],
     y: &[f64],
+    prepared: &[f64],
     settings: Settings,
     w: &mut [f64],
     fit: &mut [f64],
@@ -300,24 +326,21 @@ pub fn solve(
     scratch: &mut [f64],
 ) -> RunEnd
     requires { ⌜ inner.Ready (given shape (now starts) (now rows) (now values) (now y)) settings (now w) (now fit) (now scratch)
-        × (length (now indices) ≡ shape .p) ⌝ }
+        × (length (now prepared) ≡ shape .p + shape .p) × (length (now indices) ≡ shape .p) ⌝ }
     ensures { λ r. ⌜ (let g = given shape (now (starts .entry)) (now (rows .entry)) (now (values .entry)) (now (y .entry)) in
-        here.showsEnd shape settings r (now (w .exit)) (now (fit .exit)) (now (scratch .exit)) (call.fitted g settings)) ⌝ }
+        let T = taskWith g (settings .penalty) (now (prepared .entry)) in
+        here.showsEnd shape settings r (now (w .exit)) (now (fit .exit)) (now (scratch .exit)) (call.solved T (now (y .entry)) settings)) ⌝ }
 {
-    let twice = shape.p + shape.p;
     clear(w);
     clear(fit);
     clear(scratch);
-    prepare(shape, starts, rows, values, y, &mut scratch[..twice]);
-    if is_usable(&scratch[..twice], shape.p) {} else {
-        return not_finite();
-    }
     run(
         shape,
         starts,
         rows,
         values,
         y,
+        prepared,
         settings,
         w,
         fit,

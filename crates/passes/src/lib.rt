@@ -4,7 +4,6 @@ ghost use mathlib.Core.Path.{_≡_};
 ghost use Prim.Native.Nat.{_+_, _*_, _<_, _≤_};
 ghost use lib.ListN.{length};
 ghost use Rattle.doubles.specs.Num as num;
-ghost use Rattle.doubles.specs.Buffer.{put};
 ghost use Rattle.doubles.specs.Steps.{tab, largestFrom};
 ghost use Rattle.designs.specs.Design as def;
 ghost use Rattle.designs.specs.Inner.Sound.{Sound, Whole};
@@ -117,40 +116,6 @@ pub fn all_gradients(
 {
     all_dots(shape, starts, rows, values, fit, grad);
     finish(shape.n, prepared, shape.p, grad);
-}
-
-// The same where the products stand in one slice with the prepared numbers, from place 2p on: two parts of a slice cannot be lent at once.
-fn finish_behind(n: usize, p: usize, buf: &mut [f64])
-    requires { ⌜ (n ≤ 65536) × (p ≤ 8192) × (p + p + p ≤ length (now buf)) ⌝ }
-    ensures { λ _. ⌜ now (buf .exit)
-        ≡ put (now (buf .entry)) (p + p) (tab (λ j. def.gradientFrom (num.at (now (buf .entry)) (p + p + j)) (num.at (now (buf .entry)) (p + j)) n) p) ⌝ }
-{
-    let mut j = 0;
-    while j < p {
-        buf[p + p + j] = gradient_from(buf[p + p + j], buf[p + j], n);
-        j += 1;
-    }
-}
-
-// The gradients of all features at a fit into places 2p to 3p of a slice that begins with the prepared numbers.
-pub fn gradients_behind(
-    shape: Shape,
-    starts: &[u32],
-    rows: &[u32],
-    values: &[f64],
-    fit: &[f64],
-    buf: &mut [f64],
-)
-    requires { ⌜ (shape .n ≤ 65536) × (shape .p ≤ 8192) × (shape .p + shape .p + shape .p ≤ length (now buf))
-        × Whole shape (now starts) (now rows) (now values) × (shape .n ≤ length (now fit)) ⌝ }
-    ensures { λ _. ⌜ (let X = def.design shape (now (starts .entry)) (now (rows .entry)) (now (values .entry)) in
-        now (buf .exit)
-        ≡ put (now (buf .entry)) (shape .p + shape .p) (def.fullGradient X (now (fit .entry)) (λ j. num.at (now (buf .entry)) (shape .p + j)))) ⌝ }
-{
-    let from = shape.p + shape.p;
-    let to = from + shape.p;
-    all_dots(shape, starts, rows, values, fit, &mut buf[from..to]);
-    finish_behind(shape.n, shape.p, buf);
 }
 
 // ---- constants

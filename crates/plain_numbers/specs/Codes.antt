@@ -1,6 +1,7 @@
 -- Refusals, settings and reports as plain numbers, for both layouts.
 use Prim.Native.Nat.{ℕ}
 use mathlib.Core.Bool.{not}
+use mathlib.Core.List.{List}
 use lib.Dec.{eqb}
 use lib.Ieee.{Float, nan}
 use Rattle.doubles.specs.Num.{pick}
@@ -9,7 +10,7 @@ use Rattle.penalties.specs.Penalty.{prox}
 use Rattle.penalties.specs.declared.separable.Penalty.{Penalty}
 use Rattle.penalties.specs.declared.separable.Penalty.the-variants.{L1, L1PlusL2, MCP}
 use Rattle.designs.specs.Given.{Given}
-use Rattle.definition.specs.Call.{Lent, fitCall, fitLeft}
+use Rattle.definition.specs.Call.{Lent, solveCall, solveLeft}
 use Rattle.definition.specs.declared.Settings.{Settings}
 use Rattle.definition.specs.declared.Report.{Report}
 
@@ -57,7 +58,7 @@ abbrev pub report : ℕ → Float → ℕ → ℕ → ℕ → Report
 report status violation iterations epochs extrapolations =
     record { status = status; violation = violation; iterations = iterations; epochs = epochs; extrapolations = extrapolations }
 
--- ---- all that a fit leaves its caller: number and place, the report's numbers, and the lent buffers
+-- ---- all that a solve leaves its caller: number and place, the report's numbers, and the lent buffers
 pub record Reply : Type 0 where
   pub number : ℕ
   pub place : ℕ
@@ -67,8 +68,8 @@ pub record Reply : Type 0 where
 abbrev pub reply : ℕ → ℕ → Report → Lent → Reply
 reply number place r b = record { number = number; place = place; report = r; lent = b }
 
--- of the whole call, where the report's numbers were `old`
-unfoldable pub fitReply : Given → Settings → Lent → Report → Reply
-fitReply g S b old =
-    let done = fitCall g S b in
-    reply (numberIn done) (placeIn done) (answerIn done old) (fitLeft g S b)
+-- where the report's numbers were `old`
+unfoldable pub solveReply : Given → Settings → List Float → Lent → Report → Reply
+solveReply g S handed b old =
+    let done = solveCall g S handed b in
+    reply (numberIn done) (placeIn done) (answerIn done old) (solveLeft g S handed b)

@@ -27,6 +27,14 @@ pub fn initialize(
     passes::prepare(shape, starts, rows, values, y, &mut prepared[..room]);
 }
 
+// A feature's entry of X'y, which stands behind the p constants.
+fn product_of(prepared: &[f64], p: usize, feature: Feature) -> f64
+    requires { ⌜ (feature .0 < p) × (p + p ≤ length (now prepared)) ⌝ }
+    ensures { λ r. ⌜ r ≡ num.at (now (prepared .entry)) (p + feature .0) ⌝ }
+{
+    prepared[p + feature.0]
+}
+
 pub fn gradient_j(
     shape: Shape,
     starts: &[u32],
@@ -42,7 +50,7 @@ pub fn gradient_j(
         r ≡ def.gradient X (feature .0) (now (fit .entry)) (num.at (now (prepared .entry)) (shape .p + feature .0))) ⌝ }
 {
     let s = columns::column_dot(shape, starts, rows, values, feature, fit);
-    let q = prepared[shape.p + feature.0];
+    let q = product_of(prepared, shape.p, feature);
     passes::gradient_from(s, q, shape.n)
 }
 

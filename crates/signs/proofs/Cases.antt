@@ -1,4 +1,4 @@
--- Demand 3 in its plain cases: the second call is given the very numbers of the first, negated. Assumes nothing.
+-- Demand 3 in its plain cases: the second pair of calls is given the very numbers of the first, negated. Assumes nothing.
 use mathlib.Core.Path.{_≡_, refl, sym, _∙_}
 use mathlib.Core.Bool.{Bool, true, false, false≢true}
 use mathlib.Core.List.{List, [], _∷_}
@@ -17,15 +17,18 @@ use Rattle.doubles.proofs.Laws.Signs.{zero-turned, signs-at}
 use Rattle.doubles.specs.Steps.{steps}
 use Rattle.designs.specs.Design.{dense, csc, laid}
 use Rattle.designs.specs.Given.{Given}
+use Rattle.designs.specs.Checks.{targetsFit, roomTwice, preparationFault}
 use Rattle.designs.specs.Inner.Sound.{Rising, Held}
+use Rattle.designs.proofs.Laws.Passed.{admits}
 use Rattle.designs.specs.declared.Layout.{Layout}
 use Rattle.designs.specs.declared.Layout.the-variants.{Dense, Csc}
 use Rattle.doubles.specs.Answer.{refused, answered, none as no-fault}
 use Rattle.definition.specs.WorkingSet.{isZero}
-use Rattle.definition.specs.Call.{Lent, fitFault, fitCall, fitLeft}
+use Rattle.definition.specs.Preparation.{prepareCall, prepareLeft}
+use Rattle.definition.specs.Call.{Lent, solveFault}
+use Rattle.definition.specs.Pair.{pairCall, pairLeft}
 use Rattle.definition.specs.declared.Report.{Report}
 use Rattle.definition.specs.declared.Settings.{Settings}
-use Rattle.definition.proofs.Laws.Passed.{passed}
 use Rattle.signs.specs.Turning.{withNumbers, SameCall, turned, signsOf}
 use Rattle.signs.proofs.SignLaw.{sign-law-passed, sign-law}
 
@@ -39,9 +42,9 @@ signs-refl [] = none
 signs-refl (x ∷ xs) = more turned-refl (signs-refl xs)
 
 -- "turn all targets": for every design and all settings
-pub targets-turned : (g : Given) (S : Settings) (b : Lent)
-    → SameCall (λ (j : ℕ). false) true g (withNumbers g (g .values) (turned (λ (i : ℕ). true) (g .targets))) S b
-targets-turned g S b =
+pub targets-turned : (g : Given) (S : Settings) (buf : List Float) (b : Lent)
+    → SameCall (λ (j : ℕ). false) true g (withNumbers g (g .values) (turned (λ (i : ℕ). true) (g .targets))) S buf b
+targets-turned g S buf b =
     sign-law
     (record {
       signs = λ (i : ℕ). false;
@@ -50,7 +53,7 @@ targets-turned g S b =
       targets = signs-of (λ (i : ℕ). true) (g .targets);
       off = λ e j. refl;
     })
-    b
+    buf b
 
 -- ---- a stored entry's sign is its column's
 dense-sign : (k p j : ℕ) → j < p → (k * p + j) % p ≡ j
@@ -85,31 +88,34 @@ entry-turned c Csc n p starts rows H v j k l m =
     rw (csc-sign (H .rising) c (a + k) p (le-refl p) j l (omega arith) (omega arith)) at (signs-at v (a + k))
 
 -- "(extrapolation off) any set of columns, or both": for every design
-pub columns-turned : (c : ℕ → Bool) (t : Bool) (g : Given) (S : Settings) (b : Lent) → S .extrapolate ≡ false
+pub columns-turned : (c : ℕ → Bool) (t : Bool) (g : Given) (S : Settings) (buf : List Float) (b : Lent) → S .extrapolate ≡ false
     → SameCall c t g
-    (withNumbers g (turned (signsOf (g .shape .layout) c (g .shape .p) (g .starts)) (g .values)) (turned (λ (i : ℕ). t) (g .targets))) S b
-columns-turned c t g S b off =
+    (withNumbers g (turned (signsOf (g .shape .layout) c (g .shape .p) (g .starts)) (g .values)) (turned (λ (i : ℕ). t) (g .targets))) S buf b
+unfolding preparationFault
+columns-turned c t g S buf b off =
     let s = g .shape in
     let σ = signsOf (s .layout) c (s .p) (g .starts) in
-    sign-law-passed g b (signs-of σ (g .values)) (signs-of (λ (i : ℕ). t) (g .targets))
+    sign-law-passed g buf b (signs-of σ (g .values)) (signs-of (λ (i : ℕ). t) (g .targets))
     (λ e. record {
       signs = σ;
       stored = signs-of σ (g .values);
-      columns = entry-turned c (s .layout) (s .n) (s .p) (g .starts) (g .rows) (passed g S b e .1 .whole) (signs-of σ (g .values));
+      columns =
+          entry-turned c (s .layout) (s .n) (s .p) (g .starts) (g .rows) (admits g (targetsFit g) (roomTwice (s .p) buf) e .whole) (signs-of σ (g .values));
       targets = signs-of (λ (i : ℕ). t) (g .targets);
       off = λ e j. absurd (false≢true (sym off ∙ e));
     })
 
--- ---- what follows from a call's law
-module _ {c : ℕ → Bool} {t : Bool} {g g' : Given} {S : Settings} {b : Lent} (law : SameCall c t g g' S b) where
+-- ---- what follows from the pair's law
+module _ {c : ℕ → Bool} {t : Bool} {g g' : Given} {S : Settings} {buf : List Float} {b : Lent} (law : SameCall c t g g' S buf b) where
   -- a NaN target is refused with 6 at the same place, and so is whatever else is refused
-  pub refused-both : (number place : ℕ) → fitCall g S b ≡ refused number place → fitCall g' S b ≡ refused number place
+  pub refused-both : (number place : ℕ) → pairCall g S buf b ≡ refused number place → pairCall g' S buf b ≡ refused number place
   refused-both number place e = sym (law .answer) ∙ e
 
   -- the tolerance is met by both or by none: the report is the same
-  pub report-both : (r : Report) → fitCall g S b ≡ answered r → fitCall g' S b ≡ answered r
+  pub report-both : (r : Report) → pairCall g S buf b ≡ answered r → pairCall g' S buf b ≡ answered r
   report-both r e = sym (law .answer) ∙ e
 
   -- a weight is left zero by both or by none
-  pub zeros-both : fitFault g S b ≡ no-fault → (j : ℕ) → j < g .shape .p → isZero (fitLeft g S b .weights) j ≡ isZero (fitLeft g' S b .weights) j
-  zeros-both e j l = eq-turned (law .left e .weights j l) (zero-turned (unlike (c j) t))
+  pub zeros-both : prepareCall g buf ≡ no-fault → solveFault g S (prepareLeft g buf) b ≡ no-fault → (j : ℕ) → j < g .shape .p
+      → isZero (pairLeft g S buf b .weights) j ≡ isZero (pairLeft g' S buf b .weights) j
+  zeros-both e h j l = eq-turned (law .left e h .weights j l) (zero-turned (unlike (c j) t))

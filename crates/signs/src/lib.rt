@@ -1,1 +1,1 @@
-// The sign laws have no code: they are about the definition of a whole call.
+// The sign laws have no code: they are about the definitions of the preparation and the solve.

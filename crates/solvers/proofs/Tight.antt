@@ -6,7 +6,7 @@ use Rattle.doubles.proofs.Tight.{coincide, same-refusal}
 use Rattle.definition.specs.Call.{Lent, fitOf}
 use Rattle.definition.specs.declared.Fit.{Fit}
 use Rattle.definition.specs.declared.Fit.the-variants as Fit
-use Rattle.solvers.proofs.coordinate_descent.Reads as coordinate-descent-reads
+use Rattle.solvers.proofs.solve.Reads as solve-reads
 
 -- a reading loses nothing
 pub one-fit : (a b : Fit) → fitOf a ≡ fitOf b → a ≡ b
@@ -15,13 +15,13 @@ one-fit (Fit.Refused r) (Fit.Done y) e = cc
 one-fit (Fit.Done x) (Fit.Refused s) e = cc
 one-fit (Fit.Done x) (Fit.Done y) e = cc
 
-coordinate-descent-tight : (κs : _) (a : _) (r r' : Fit) (s s' : _) → coordinate-descent-reads.Post κs a r s → coordinate-descent-reads.Post κs a r' s'
+solve-tight : (κs : _) (a : _) (r r' : Fit) (s s' : _) → solve-reads.Post κs a r s → solve-reads.Post κs a r' s'
     → (r ≡ r')
-    × (now (s .1 .1 .1 .1 .1 .1 .0) ≡ now (s' .1 .1 .1 .1 .1 .1 .0))
     × (now (s .1 .1 .1 .1 .1 .1 .1 .0) ≡ now (s' .1 .1 .1 .1 .1 .1 .1 .0))
     × (now (s .1 .1 .1 .1 .1 .1 .1 .1 .0) ≡ now (s' .1 .1 .1 .1 .1 .1 .1 .1 .0))
     × (now (s .1 .1 .1 .1 .1 .1 .1 .1 .1 .0) ≡ now (s' .1 .1 .1 .1 .1 .1 .1 .1 .1 .0))
-coordinate-descent-tight κs a r r' s s' p q =
+    × (now (s .1 .1 .1 .1 .1 .1 .1 .1 .1 .1 .0) ≡ now (s' .1 .1 .1 .1 .1 .1 .1 .1 .1 .1 .0))
+solve-tight κs a r r' s s' p q =
     let buffers = coincide (p .1) (q .1) in (
       one-fit r r' (coincide (p .0) (q .0)),
       ap (λ (b : Lent). b .weights) buffers,

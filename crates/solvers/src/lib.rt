@@ -1,17 +1,22 @@
-// Coordinate descent over working sets: the whole call. It tests its input first and refuses with document 01's number and place; refused with
-// 1 to 6, it changes no lent buffer, and with 7 it leaves the room it used at zero.
+// Coordinate descent over working sets: the solve, which runs with the prepared numbers that it is handed. It tests its input first and refuses with
+// the documents' number and place; refused with 1 to 6 or 10, it changes no lent buffer, and with 7 it leaves the room it used at zero.
 ghost use mathlib.Core.Path.{_≡_};
-ghost use Prim.Native.Nat.{_≤_};
+ghost use mathlib.Core.Bool.{true};
+ghost use Prim.Native.Nat.{_+_, _≤_};
 ghost use lib.ListN.{length};
-ghost use Rattle.doubles.specs.Steps.{tab};
-ghost use Rattle.doubles.specs.Answer.{none, verdictOf};
+ghost use Rattle.doubles.specs.Num as num;
+ghost use Rattle.doubles.specs.Steps.{tab, zeros};
+ghost use Rattle.doubles.specs.Answer.{none, verdictOf, _then_};
 ghost use Rattle.designs.specs.Given.{given};
+ghost use Rattle.designs.specs.Checks.{roomTwice};
 ghost use Rattle.definition.specs.Call as call;
 ghost use Rattle.definition.specs.declared.Fit.the-variants.{Refused};
+ghost use Rattle.extrapolation.specs.Inner.Places.{taskWith};
 ghost use Rattle.epochs.specs.Inner.Reading.{Ready};
 ghost use Rattle.solvers.specs.Inner.Left as left;
 use columns::clear;
-use decisions::check_settings;
+use decisions::check_early;
+use decisions::check_handed;
 use decisions::scratch_room;
 use decisions::status;
 use definition::Fit;
@@ -19,42 +24,65 @@ use definition::Report;
 use definition::Settings;
 use designs::Shape;
 use designs::inner::check_sized;
-use designs::inner::sizes_agree;
 use doubles::Refusal;
 use doubles::Verdict;
 use doubles::inner::both;
-use doubles::inner::refused;
 use iterations::RunEnd;
 use iterations::Totals;
-use iterations::solve;
+use iterations::start_run;
 use worksets::inner::clear_indices;
 
-// ---- the tests that only a whole call has
+// ---- the tests
 
-// Whether each lent buffer has its room.
+// Whether the prepared numbers are 2p and each lent buffer has its room.
 fn has_room(
     shape: Shape,
     settings: Settings,
+    prepared: &[f64],
     w: &[f64],
     fit: &[f64],
     indices: &[u32],
     scratch: &[f64],
 ) -> bool
     requires { ⌜ (shape .n ≤ 65536) × (shape .p ≤ 8192) × (call.settingsFault settings ≡ none) ⌝ }
-    ensures { λ r. ⌜ r ≡ call.roomy shape settings (call.lent (now (w .entry)) (now (fit .entry)) (now (indices .entry)) (now (scratch .entry))) ⌝ }
+    ensures { λ r. ⌜ (let b = call.lent (now (w .entry)) (now (fit .entry)) (now (indices .entry)) (now (scratch .entry)) in
+        r ≡ num._and_ (roomTwice (shape .p) (now (prepared .entry))) (call.roomy shape settings b)) ⌝ }
 {
     let room = scratch_room(shape, settings);
     let used = both(shape.p <= indices.len(), room <= scratch.len());
-    both(shape.p <= w.len(), both(shape.n <= fit.len(), used))
+    let lent = both(shape.p <= w.len(), both(shape.n <= fit.len(), used));
+    both(shape.p + shape.p <= prepared.len(), lent)
 }
 
-// All tests of a whole call: 1, then the settings' 2, then 3 to 6.
-fn check_fit(
+// 10, where there is room: else the prepared numbers are not read.
+fn check_numbers(prepared: &[f64], p: usize, room: bool) -> Verdict
+    requires { ⌜ (p ≤ 8192) × (room ≡ true → p + p ≤ length (now prepared)) ⌝ }
+    ensures { λ r. ⌜ verdictOf r ≡ num.pick room (call.handedFault p (now (prepared .entry))) none ⌝ }
+{
+    if room {
+        return check_handed(prepared, p);
+    }
+    Verdict::Fine
+}
+
+// What was found first: by the tests before, or by those behind them.
+fn first_refusal(before: Verdict, behind: Verdict) -> Verdict
+    ensures { λ r. ⌜ verdictOf r ≡ (verdictOf before then verdictOf behind) ⌝ }
+{
+    match before {
+        Verdict::Refused(r) => Verdict::Refused(r),
+        Verdict::Fine => behind,
+    }
+}
+
+// All tests of a solve: 1, then the settings' 2, then 3 to 6, and 10 behind them.
+fn check_solve(
     shape: Shape,
     starts: &[u32],
     rows: &[u32],
     values: &[f64],
     y: &[f64],
+    prepared: &[f64],
     settings: Settings,
     w: &[f64],
     fit: &[f64],
@@ -62,17 +90,16 @@ fn check_fit(
     scratch: &[f64],
 ) -> Verdict
     ensures { λ r. ⌜ (let g = given shape (now (starts .entry)) (now (rows .entry)) (now (values .entry)) (now (y .entry)) in
-        verdictOf r ≡ call.fitFault g settings (call.lent (now (w .entry)) (now (fit .entry)) (now (indices .entry)) (now (scratch .entry)))) ⌝ }
+        let b = call.lent (now (w .entry)) (now (fit .entry)) (now (indices .entry)) (now (scratch .entry)) in
+        verdictOf r ≡ call.solveFault g settings (now (prepared .entry)) b) ⌝ }
 {
-    let fits = y.len() == shape.n;
-    if both(sizes_agree(shape, starts, rows, values), fits) {} else {
-        return refused(1, 0);
-    }
-    if let Verdict::Refused(r) = check_settings(settings) {
+    if let Verdict::Refused(r) = check_early(shape, starts, rows, values, y, settings) {
         return Verdict::Refused(r);
     }
-    let room = has_room(shape, settings, w, fit, indices, scratch);
-    check_sized(shape, starts, rows, values, y, room)
+    let room = has_room(shape, settings, prepared, w, fit, indices, scratch);
+    let given = check_sized(shape, starts, rows, values, y, room);
+    let numbers = check_numbers(prepared, shape.p, room);
+    first_refusal(given, numbers)
 }
 
 // ---- the answer
@@ -92,8 +119,8 @@ fn report(totals: Totals, tolerance: f64) -> Report
 
 // What a run that was given up leaves: zero weights and zero fit.
 fn give_up(refusal: Refusal, w: &mut [f64], fit: &mut [f64]) -> Fit
-    ensures { λ r. ⌜ (r ≡ Refused refusal) × (now (w .exit) ≡ call.zeros (length (now (w .entry))))
-        × (now (fit .exit) ≡ call.zeros (length (now (fit .entry)))) ⌝ }
+    ensures { λ r. ⌜ (r ≡ Refused refusal) × (now (w .exit) ≡ zeros (length (now (w .entry))))
+        × (now (fit .exit) ≡ zeros (length (now (fit .entry)))) ⌝ }
 {
     clear(w);
     clear(fit);
@@ -101,12 +128,13 @@ fn give_up(refusal: Refusal, w: &mut [f64], fit: &mut [f64]) -> Fit
 }
 
 // The run's answer, over buffers of exactly their room. Scratch and indices are cleared; where the run was given up, the weights and the fit too.
-fn fit_inside(
+fn solve_inside(
     shape: Shape,
     starts: &[u32],
     rows: &[u32],
     values: &[f64],
     y: &[f64],
+    prepared: &[f64],
     settings: Settings,
     w: &mut [f64],
     fit: &mut [f64],
@@ -114,19 +142,21 @@ fn fit_inside(
     scratch: &mut [f64],
 ) -> Fit
     requires { ⌜ Ready (given shape (now starts) (now rows) (now values) (now y)) settings (now w) (now fit) (now scratch)
-        × (length (now indices) ≡ shape .p) ⌝ }
+        × (length (now prepared) ≡ shape .p + shape .p) × (length (now indices) ≡ shape .p) ⌝ }
     ensures { λ r. ⌜ (let g = given shape (now (starts .entry)) (now (rows .entry)) (now (values .entry)) (now (y .entry)) in
-        (call.fitOf r ≡ call.answer settings (call.fitted g settings))
-        × left.Leaves shape (call.fitted g settings) (now (w .exit)) (now (fit .exit))
+        let end = call.solved (taskWith g (settings .penalty) (now (prepared .entry))) (now (y .entry)) settings in
+        (call.fitOf r ≡ call.answer settings end)
+        × left.Leaves shape end (now (w .exit)) (now (fit .exit))
         × (now (indices .exit) ≡ tab (λ j. 0) (shape .p))
-        × (now (scratch .exit) ≡ call.zeros (call.scratchRoom shape settings))) ⌝ }
+        × (now (scratch .exit) ≡ zeros (call.scratchRoom shape settings))) ⌝ }
 {
-    let ended = solve(
+    let ended = start_run(
         shape,
         starts,
         rows,
         values,
         y,
+        prepared,
         settings,
         w,
         fit,
@@ -141,13 +171,14 @@ fn fit_inside(
     }
 }
 
-// The run on the first places of each lent buffer, behind the tests.
-fn fit_tested(
+// The run on the first places of each slice, behind the tests.
+fn solve_tested(
     shape: Shape,
     starts: &[u32],
     rows: &[u32],
     values: &[f64],
     y: &[f64],
+    prepared: &[f64],
     settings: Settings,
     w: &mut [f64],
     fit: &mut [f64],
@@ -155,22 +186,24 @@ fn fit_tested(
     scratch: &mut [f64],
 ) -> Fit
     requires { ⌜ (let b = call.lent (now w) (now fit) (now indices) (now scratch) in
-        call.fitFault (given shape (now starts) (now rows) (now values) (now y)) settings b ≡ none) ⌝ }
+        call.solveTests (given shape (now starts) (now rows) (now values) (now y)) settings (now prepared) b ≡ none) ⌝ }
     ensures { λ r. ⌜ (let g = given shape (now (starts .entry)) (now (rows .entry)) (now (values .entry)) (now (y .entry)) in
         let b = call.lent (now (w .entry)) (now (fit .entry)) (now (indices .entry)) (now (scratch .entry)) in
-        (call.fitOf r ≡ call.answer settings (call.fitted g settings))
-        × (call.lent (now (w .exit)) (now (fit .exit)) (now (indices .exit)) (now (scratch .exit))
-        ≡ call.buffers shape settings b (call.fitted g settings))) ⌝ }
+        let end = call.solved (call.taskOf g settings (now (prepared .entry))) (now (y .entry)) settings in
+        (call.fitOf r ≡ call.answer settings end)
+        × (call.lent (now (w .exit)) (now (fit .exit)) (now (indices .exit)) (now (scratch .exit)) ≡ call.buffers shape settings b end)) ⌝ }
 {
     let p = shape.p;
     let n = shape.n;
+    let twice = p + p;
     let room = scratch_room(shape, settings);
-    fit_inside(
+    solve_inside(
         shape,
         starts,
         rows,
         values,
         y,
+        &prepared[..twice],
         settings,
         &mut w[..p],
         &mut fit[..n],
@@ -180,12 +213,13 @@ fn fit_tested(
 }
 
 // The whole call.
-pub fn coordinate_descent(
+pub fn solve(
     shape: Shape,
     starts: &[u32],
     rows: &[u32],
     values: &[f64],
     y: &[f64],
+    prepared: &[f64],
     settings: Settings,
     w: &mut [f64],
     fit: &mut [f64],
@@ -194,15 +228,17 @@ pub fn coordinate_descent(
 ) -> Fit
     ensures { λ r. ⌜ (let g = given shape (now (starts .entry)) (now (rows .entry)) (now (values .entry)) (now (y .entry)) in
         let b = call.lent (now (w .entry)) (now (fit .entry)) (now (indices .entry)) (now (scratch .entry)) in
-        (call.fitOf r ≡ call.fitCall g settings b)
-        × (call.lent (now (w .exit)) (now (fit .exit)) (now (indices .exit)) (now (scratch .exit)) ≡ call.fitLeft g settings b)) ⌝ }
+        (call.fitOf r ≡ call.solveCall g settings (now (prepared .entry)) b)
+        × (call.lent (now (w .exit)) (now (fit .exit)) (now (indices .exit)) (now (scratch .exit))
+        ≡ call.solveLeft g settings (now (prepared .entry)) b)) ⌝ }
 {
-    match check_fit(
+    match check_solve(
         shape,
         starts,
         rows,
         values,
         y,
+        prepared,
         settings,
         w,
         fit,
@@ -210,12 +246,13 @@ pub fn coordinate_descent(
         scratch,
     ) {
         Verdict::Refused(r) => Fit::Refused(r),
-        Verdict::Fine => fit_tested(
+        Verdict::Fine => solve_tested(
             shape,
             starts,
             rows,
             values,
             y,
+            prepared,
             settings,
             w,
             fit,

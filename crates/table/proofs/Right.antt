@@ -10,16 +10,18 @@ use Rattle.penalties.specs.Penalty.{alphaLegal, secondLegal, penaltyFault, prox
 use Rattle.elimination.specs.Elimination.{reduced, cleared, clearedBelow, echelon, clearedAbove, backSubstituted}
 use Rattle.elimination.specs.Elimination.{regular, readOff, eliminated, solution, solveCall}
 use Rattle.designs.specs.Design.{dense, laid, dot, squares, lipschitz, dots, prepared, gradientFrom, gradient, squaredError, datafit, moved, finiteAt}
-use Rattle.designs.specs.Checks.{lengths, sizes, notFinite, numbers, contents, sizedFault}
+use Rattle.designs.specs.Checks.{lengths, sizes, notFinite, numbers, contents, sizedFault, admitted, preparationFault}
 use Rattle.datafits.specs.Calls.{valueFault, valueCall}
 use Rattle.definition.specs.WorkingSet.{support, size, insert, others, workingSet, padded}
 use Rattle.worksets.specs.Call.{badViolation, wsFault, wsCall, wsLeft}
 use Rattle.definition.specs.Epoch.{gradientOf, violationOf, known, allKnown, violations, worst, knownIn, worstIn, newWeight, movedBy, movedFinite, fine}
 use Rattle.definition.specs.Epoch.{visited, visit, visits}
 use Rattle.definition.specs.Run.{accelerated, enough, checked, checks, settled, epoch, epochs, chosenSet, iteration, turn, start, run}
-use Rattle.definition.specs.Call.{startLegal, depthLegal, settingsFault, scratchRoom, roomy, fitFault}
-use Rattle.definition.specs.Call.{usable, solved, fitted, fitEnd, reportOf, fitCall, fitLeft}
-use Rattle.table.specs.Table.{bits, same, solutionLine, dirty, diagonal, listing, setLine, right, mcp, table}
+use Rattle.definition.specs.Preparation.{usable, allUsable, prepareCall, numbersLeft, prepareLeft}
+use Rattle.definition.specs.Call.{startLegal, depthLegal, settingsFault, scratchRoom, roomy, acceptable, handedFault, earlyFault, solveTests, solveFault}
+use Rattle.definition.specs.Call.{solved, solveEnd, reportOf}
+use Rattle.definition.specs.Pair.{pairEnd, pairCall, pairLeft}
+use Rattle.table.specs.Table.{bits, same, solutionLine, dirty, dirtyNumbers, diagonal, listing, setLine, right, mcp, table}
 
 pub right-table : right table ≡ true
 unfolding
@@ -28,10 +30,11 @@ unfolding
     soft01 soft alphaLegal secondLegal penaltyFault proxL1 proxL1PlusL2 proxMcp prox excess violationL1 violation
     reduced cleared clearedBelow echelon clearedAbove backSubstituted regular readOff eliminated solution solveCall
     dense laid dot squares lipschitz dots prepared gradientFrom gradient squaredError datafit moved finiteAt
-    lengths sizes notFinite numbers contents sizedFault valueFault valueCall
+    lengths sizes notFinite numbers contents sizedFault admitted preparationFault valueFault valueCall
     support size insert others workingSet padded badViolation wsFault wsCall wsLeft
     gradientOf violationOf known allKnown violations worst knownIn worstIn newWeight movedBy movedFinite fine visited visit visits
     accelerated enough checked checks settled epoch epochs chosenSet iteration turn start run
-    startLegal depthLegal settingsFault scratchRoom roomy fitFault usable solved fitted fitEnd reportOf fitCall fitLeft
-    bits same solutionLine dirty diagonal listing setLine right mcp table
+    usable allUsable prepareCall numbersLeft prepareLeft
+    startLegal depthLegal settingsFault scratchRoom roomy acceptable handedFault earlyFault solveTests solveFault solved solveEnd reportOf
+    pairEnd pairCall pairLeft bits same solutionLine dirty dirtyNumbers diagonal listing setLine right mcp table
 right-table = refl

@@ -1,6 +1,7 @@
 -- "Values to prove": P1 to P10 as rows of one table. A row has what the definitions give and what document 01 says, as doubles' bits, feature
 -- numbers and counts. P4 and P7 to P10 are those of public calls: a row of theirs begins with the refusal's number and place, both 0 where there
--- is none, and goes on with the answer and every place of the lent buffers. Each of these has one place more than its room and no zero in it.
+-- is none, and goes on with the answer and every place of the lent buffers. Each of these has one place more than its room and no zero in it. P8 to
+-- P10 go through the two calls of request 5: "preparing and then solving answers as the single call did".
 use mathlib.Core.Bool.{Bool, true, false}
 use mathlib.Core.List.{List, [], _∷_, _++_}
 use Prim.Native.Nat.{ℕ}
@@ -18,7 +19,9 @@ use Rattle.designs.specs.Design.{denseShape, nothing}
 use Rattle.designs.specs.Given.{Given, given}
 use Rattle.datafits.specs.Calls.{valueCall}
 use Rattle.worksets.specs.Call.{wsCall, wsLeft}
-use Rattle.definition.specs.Call.{Lent, fitCall, fitLeft}
+use Rattle.definition.specs.Preparation.{prepareLeft}
+use Rattle.definition.specs.Call.{Lent}
+use Rattle.definition.specs.Pair.{pairCall, pairLeft}
 use Rattle.definition.specs.declared.Settings.{Settings}
 use Rattle.definition.specs.declared.Report.{Report}
 
@@ -72,19 +75,28 @@ lentLine b = bits (b .weights) ++ bits (b .fit) ++ b .indices ++ bits (b .scratc
 -- ---- the calls
 -- room for two features and two samples, and one place more each
 unfoldable pub dirty : Lent
-dirty = record { weights = tab (λ k. #2) 3; fit = tab (λ k. #2) 3; indices = tab (λ k. 9) 3; scratch = tab (λ k. #2) 7 }
+dirty = record { weights = tab (λ k. #2) 3; fit = tab (λ k. #2) 3; indices = tab (λ k. 9) 3; scratch = tab (λ k. #2) 3 }
+
+-- and for their four prepared numbers
+unfoldable pub dirtyNumbers : List Float
+dirtyNumbers = tab (λ k. count 9) 5
 
 -- rows (2,0), (0,2), and the targets
 unfoldable pub diagonal : List Float → Given
 diagonal y = given (denseShape 2 2) nothing nothing (#2 ∷ #0 ∷ #0 ∷ #2 ∷ []) y
 
+-- the pair's answer, the prepared numbers, and the other buffers
 unfoldable pub listing : ℕ → List Float → List ℕ
-listing alpha y = told reportLine (fitCall (diagonal y) (settings alpha) dirty) ++ lentLine (fitLeft (diagonal y) (settings alpha) dirty)
+listing alpha y =
+    told reportLine (pairCall (diagonal y) (settings alpha) dirtyNumbers dirty) ++ bits (prepareLeft (diagonal y) dirtyNumbers)
+    ++ lentLine (pairLeft (diagonal y) (settings alpha) dirtyNumbers dirty)
 
--- what document 01 says of a run: the report, two weights and two fit entries; indices and scratch are zero, and the place too many is untouched
-abbrev pub listed : List ℕ → Float → Float → Float → Float → List ℕ
-listed report a b c d =
-    (0 ∷ 0 ∷ []) ++ report ++ bits (a ∷ b ∷ #2 ∷ c ∷ d ∷ #2 ∷ []) ++ (0 ∷ 0 ∷ 9 ∷ []) ++ bits (tab (λ k. #0) 6) ++ bits (#2 ∷ [])
+-- what document 01 says of a run: the report, two weights and two fit entries; indices and scratch are zero, and the place too many is untouched. Of
+-- the prepared numbers each constant is (2·2 + 0·0)/2 = 2, and xty is twice the targets
+abbrev pub listed : List ℕ → List Float → List Float → List Float → List ℕ
+listed report xty weights fit =
+    (0 ∷ 0 ∷ []) ++ report ++ bits (#2 ∷ #2 ∷ []) ++ bits xty ++ bits (count 9 ∷ []) ++ bits weights ++ bits (#2 ∷ []) ++ bits fit ++ bits (#2 ∷ [])
+    ++ (0 ∷ 0 ∷ 9 ∷ []) ++ bits (#0 ∷ #0 ∷ #2 ∷ [])
 
 -- P4's weights and violations
 abbrev pub violations : List Float
@@ -140,9 +152,9 @@ table =
     -- P7 targets 3,1, fit 2,0: datafit 0.5
     ∷ is (told (λ x. bits (x ∷ [])) (valueCall (count 3 ∷ #1 ∷ []) (#2 ∷ #0 ∷ #2 ∷ []))) (0 ∷ 0 ∷ bits (half 1 ∷ []))
     -- P8 the listing's run
-    ∷ is (listing 1 (count 3 ∷ #1 ∷ [])) (listed (1 ∷ 0 ∷ 1 ∷ 11 ∷ 0 ∷ []) #1 #0 #2 #0)
+    ∷ is (listing 1 (count 3 ∷ #1 ∷ [])) (listed (1 ∷ 0 ∷ 1 ∷ 11 ∷ 0 ∷ []) (count 6 ∷ #2 ∷ []) (#1 ∷ #0 ∷ []) (#2 ∷ #0 ∷ []))
     -- P9 targets −3,−1: weights −1,0
-    ∷ is (listing 1 (neg (count 3) ∷ neg #1 ∷ [])) (listed (1 ∷ 0 ∷ 1 ∷ 11 ∷ 0 ∷ []) (neg #1) #0 (neg #2) #0)
+    ∷ is (listing 1 (neg (count 3) ∷ neg #1 ∷ [])) (listed (1 ∷ 0 ∷ 1 ∷ 11 ∷ 0 ∷ []) (neg (count 6) ∷ neg #2 ∷ []) (neg #1 ∷ #0 ∷ []) (neg #2 ∷ #0 ∷ []))
     -- P10 alpha 3: zero weights, no iteration
-    ∷ is (listing 3 (count 3 ∷ #1 ∷ [])) (listed (1 ∷ 0 ∷ 0 ∷ 0 ∷ 0 ∷ []) #0 #0 #0 #0)
+    ∷ is (listing 3 (count 3 ∷ #1 ∷ [])) (listed (1 ∷ 0 ∷ 0 ∷ 0 ∷ 0 ∷ []) (count 6 ∷ #2 ∷ []) (#0 ∷ #0 ∷ []) (#0 ∷ #0 ∷ []))
     ∷ []

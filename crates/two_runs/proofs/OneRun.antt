@@ -10,12 +10,12 @@ use lib.ListN.{length, getD}
 use lib.Seq.{ext-getD}
 use lib.Ieee.{Float, nan, eq}
 use Rattle.doubles.specs.Num.{#0}
-use Rattle.doubles.specs.Steps.{Stage, going, stopped, bad, upto}
+use Rattle.doubles.specs.Steps.{zeros, Stage, going, stopped, bad, upto}
 use Rattle.doubles.proofs.Laws.Signs.{sum-same}
 use Rattle.definition.specs.Epoch.{Task, Point, constant, fine, visited, visit}
 use Rattle.definition.specs.Extrapolation.{U, entry, better, pointOf}
 use Rattle.definition.specs.Run.{Inner, epoch, State, chosenSet, turn, start, run}
-use Rattle.definition.specs.Call.{done, zeros, solved}
+use Rattle.definition.specs.Call.{done, solved}
 use Rattle.definition.specs.declared.Settings.{Settings}
 use Rattle.definition.proofs.Laws.Ends.{solved-done}
 use Rattle.two_runs.specs.Stages.{Stages, both-going, both-stopped, both-bad, Both}

@@ -3,13 +3,13 @@
 use mathlib.Core.Path.{_≡_, refl, sym, ap, _∙_}
 use mathlib.Core.Bool.{true, false≢true}
 use mathlib.Core.List.{List, [], _∷_, _++_}
-use Prim.Native.Nat.{ℕ, suc, _+_, _*_, _%_, _<_}
+use Prim.Native.Nat.{ℕ, suc, _+_, _*_, _%_}
 use native.Mathlib.Nat.{le-trans, not-suc-le-zero, zero-mod}
 use lib.Dec.{eqb}
 use lib.ListN.{length}
 use lib.Ieee.{Float, le}
 use Rattle.doubles.specs.Num.{_or_}
-use Rattle.doubles.specs.Steps.{all, upto}
+use Rattle.doubles.specs.Steps.{upto}
 use Rattle.doubles.proofs.Laws.Steps.{length-tab}
 use Rattle.doubles.specs.Answer.{answered}
 use Rattle.definition.specs.Epoch.{Task, Point, worst}
@@ -17,10 +17,10 @@ use Rattle.definition.specs.Extrapolation.{keeps}
 use Rattle.definition.specs.declared.Settings.{Settings}
 use Rattle.definition.specs.Run.{Inner, gained, accelerated, enough, checked, checks, settled, epoch, epochs}
 use Rattle.definition.specs.Run.{State, chosenSet, iteration, turn, start, run}
-use Rattle.definition.specs.Call.{End, usableAt, solved, reportOf, answer}
+use Rattle.definition.specs.Call.{End, solved, reportOf, answer}
 use Rattle.two_runs.specs.Stages.{Stages, both-going, both-stopped, both-bad, Both, Ends, both-untouched, both-given-up, both-done}
 use Rattle.two_runs.specs.Alike.{Pair, first, second, Points, FeatureSet, Rows, Respects, bare, rest, Alike}
-use Rattle.two_runs.proofs.Laws.Loops.{related, all-same, stages-map, upto-related, then-related, concluded-related}
+use Rattle.two_runs.proofs.Laws.Loops.{related, stages-map, upto-related, then-related, concluded-related}
 use Rattle.two_runs.proofs.Laws.Points.{weights-zero, all-known, worst-same, known-in, worst-in, chosen-same, chosen-fits, visits-related}
 use Rattle.two_runs.proofs.Laws.Rows.{room-now, row-next, rows-now, tried-related}
 
@@ -163,13 +163,10 @@ module _ (P : Pair) (H : Respects P) where
       alike : (s s' : State) → States P s s' → Alike P s s'
       alike s s' u = record { points = u .inner .points; same = u .same }
 
--- ---- a solve: the relations need to be respected only where every column is usable
-pub two-solves : (P : Pair) → ((j : ℕ) → j < P .p → usableAt (first P) j ≡ usableAt (second P) j)
-    → (all (usableAt (first P)) (P .p) ≡ true → Respects P)
-    → Ends (Alike P) (solved (first P) (P .y) (P .settings)) (solved (second P) (P .y') (P .settings))
+-- ---- a solve
+pub two-solves : (P : Pair) → Respects P → Ends (Alike P) (solved (first P) (P .y) (P .settings)) (solved (second P) (P .y') (P .settings))
 unfolding solved run
-two-solves P h H =
-    related (Ends (Alike P)) (all-same _ _ (P .p) h) (λ e. concluded-related (two-turns P (H e) (P .settings .iterations + 1))) (λ e. both-given-up)
+two-solves P H = concluded-related (two-turns P H (P .settings .iterations + 1))
 
 -- ---- the report, whatever it holds, and the answer
 pub report-same : (P : Pair) (S : Settings) {s s' : State} → Alike P s s' → reportOf S s ≡ reportOf S s'

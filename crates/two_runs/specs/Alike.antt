@@ -6,7 +6,7 @@ use Prim.Native.Nat.{ℕ, suc, _+_, _*_, _≤_, _<_}
 use lib.ListN.{length, getD}
 use lib.Ieee.{Float, eq}
 use Rattle.doubles.specs.Num.{_⊗_, #0, at}
-use Rattle.doubles.specs.Steps.{sum}
+use Rattle.doubles.specs.Steps.{sum, zeros}
 use Rattle.penalties.specs.declared.separable.Penalty.{Penalty}
 use Rattle.designs.specs.Design.{Design}
 use Rattle.definition.specs.Epoch as Epoch
@@ -14,7 +14,6 @@ use Rattle.definition.specs.Epoch.{Task, Point, constant, violationOf, newWeigh
 use Rattle.definition.specs.Extrapolation as Extrapolation
 use Rattle.definition.specs.Extrapolation.{pointOf}
 use Rattle.definition.specs.Run.{Inner, State}
-use Rattle.definition.specs.Call.{zeros}
 use Rattle.definition.specs.declared.Settings.{Settings}
 
 -- ---- what is compared: two designs of one size, each with what was prepared of it and with its targets; penalty and settings are the same. `weight j`

@@ -1,1 +1,1 @@
-// The law of two runs has no code: it is about the definition of a whole call.
+// The law of two runs has no code: it is about the definition of a solve.

@@ -23,8 +23,10 @@ use Rattle.views.specs.declared.CSCArray.{CSCArray}
 use Rattle.views.proofs.new as new
 use Rattle.views.proofs.check as check
 use Rattle.views.proofs.inner.check.Reads as inner-check
-use Rattle.views.proofs.coordinate_descent_sparse as coordinate-descent-sparse
-use Rattle.views.proofs.inner.coordinate_descent.Reads as inner-coordinate-descent
+use Rattle.views.proofs.prepare_sparse as prepare-sparse
+use Rattle.views.proofs.inner.prepare.Reads as inner-prepare
+use Rattle.views.proofs.solve_sparse as solve-sparse
+use Rattle.views.proofs.inner.solve.Reads as inner-solve
 use Rattle.views.proofs.compute_alpha_max_sparse as compute-alpha-max-sparse
 use Rattle.views.proofs.inner.compute_alpha_max.Reads as inner-compute-alpha-max
 use Rattle.views.proofs.initialize_sparse as initialize-sparse
@@ -59,9 +61,11 @@ module _ {M : Type 1} (𝓤 : URA M) (H : Heap 𝓤) (A : Atoms 𝓤) (mem : Mem
   check-promises : Passes (λ κs a r s. check.clauses 𝓤 H A mem run κs a .ensures tt r s) inner-check.Post
   check-promises κs d a r s = refl
 
-  coordinate-descent-sparse-promises : Passes
-      (λ κs a r s. coordinate-descent-sparse.clauses 𝓤 H A mem run κs a .ensures tt r s) inner-coordinate-descent.Post
-  coordinate-descent-sparse-promises κs d a r s = refl
+  prepare-sparse-promises : Passes (λ κs a r s. prepare-sparse.clauses 𝓤 H A mem run κs a .ensures tt r s) inner-prepare.Post
+  prepare-sparse-promises κs d a r s = refl
+
+  solve-sparse-promises : Passes (λ κs a r s. solve-sparse.clauses 𝓤 H A mem run κs a .ensures tt r s) inner-solve.Post
+  solve-sparse-promises κs d a r s = refl
 
   compute-alpha-max-sparse-promises : Passes
       (λ κs a r s. compute-alpha-max-sparse.clauses 𝓤 H A mem run κs a .ensures tt r s) inner-compute-alpha-max.Post
@@ -91,13 +95,17 @@ new-tight x y z p q = λ i. record { starts = coincide (p .0) (q .0) i; rows = c
 check-tight : (κs : _) (a : _) (r r' : Verdict) (s s' : _) → inner-check.Post κs a r s → inner-check.Post κs a r' s' → r ≡ r'
 check-tight κs a r r' s s' p q = one-verdict r r' (coincide p q)
 
-coordinate-descent-tight : (κs : _) (a : _) (r r' : Fit) (s s' : _) → inner-coordinate-descent.Post κs a r s → inner-coordinate-descent.Post κs a r' s'
+prepare-tight : (κs : _) (a : _) (r r' : Verdict) (s s' : _) → inner-prepare.Post κs a r s → inner-prepare.Post κs a r' s'
+    → (r ≡ r') × (now (s .1 .1 .1 .1 .1 .1 .0) ≡ now (s' .1 .1 .1 .1 .1 .1 .0))
+prepare-tight κs a r r' s s' p q = (one-verdict r r' (coincide (p .0) (q .0)), coincide (p .1) (q .1))
+
+solve-tight : (κs : _) (a : _) (r r' : Fit) (s s' : _) → inner-solve.Post κs a r s → inner-solve.Post κs a r' s'
     → (r ≡ r')
-    × (now (s .1 .1 .1 .1 .1 .1 .1 .0) ≡ now (s' .1 .1 .1 .1 .1 .1 .1 .0))
     × (now (s .1 .1 .1 .1 .1 .1 .1 .1 .0) ≡ now (s' .1 .1 .1 .1 .1 .1 .1 .1 .0))
     × (now (s .1 .1 .1 .1 .1 .1 .1 .1 .1 .0) ≡ now (s' .1 .1 .1 .1 .1 .1 .1 .1 .1 .0))
     × (now (s .1 .1 .1 .1 .1 .1 .1 .1 .1 .1 .0) ≡ now (s' .1 .1 .1 .1 .1 .1 .1 .1 .1 .1 .0))
-coordinate-descent-tight κs a r r' s s' p q =
+    × (now (s .1 .1 .1 .1 .1 .1 .1 .1 .1 .1 .1 .0) ≡ now (s' .1 .1 .1 .1 .1 .1 .1 .1 .1 .1 .1 .0))
+solve-tight κs a r r' s s' p q =
     let buffers = coincide (p .1) (q .1) in (
       one-fit r r' (coincide (p .0) (q .0)),
       ap (λ (b : Lent). b .weights) buffers,

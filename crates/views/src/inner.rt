@@ -5,7 +5,9 @@ ghost use mathlib.Core.Path.{_≡_};
 ghost use Rattle.doubles.specs.Answer.{numberOf, verdictOf};
 ghost use Rattle.designs.specs.Design.{cscShape};
 ghost use Rattle.designs.specs.Given.{given};
+ghost use Rattle.designs.specs.Checks as checks';
 ghost use Rattle.datafits.specs.Calls as calls;
+ghost use Rattle.definition.specs.Preparation as prep;
 ghost use Rattle.definition.specs.Call as call;
 ghost use Rattle.views.specs.Check.{designFault};
 use definition::Fit;
@@ -34,35 +36,59 @@ pub fn check<'a>(
     admit(shape, starts, rows, values, &values[..0], true, true)
 }
 
-pub fn coordinate_descent<'a, 'b, 'c, 'd, 'e, 'f>(
+pub fn prepare<'a, 'b, 'c>(
     starts: &'a [u32],
     rows: &'a [u32],
     values: &'a [f64],
     n: usize,
     p: usize,
     y: &'b [f64],
-    settings: Settings,
-    w: &'c mut [f64],
-    fit: &'d mut [f64],
-    indices: &'e mut [u32],
-    scratch: &'f mut [f64],
-) -> Fit
+    prepared: &'c mut [f64],
+) -> Verdict
     ensures { λ r. ⌜ (let g = given (cscShape n p) (now (starts .entry)) (now (rows .entry)) (now (values .entry)) (now (y .entry)) in
-        let b = call.lent (now (w .entry)) (now (fit .entry)) (now (indices .entry)) (now (scratch .entry)) in
-        (call.fitOf r ≡ call.fitCall g settings b)
-        × (call.lent (now (w .exit)) (now (fit .exit)) (now (indices .exit)) (now (scratch .exit)) ≡ call.fitLeft g settings b)) ⌝ }
+        (verdictOf r ≡ prep.prepareCall g (now (prepared .entry)))
+        × (now (prepared .exit) ≡ prep.prepareLeft g (now (prepared .entry)))) ⌝ }
 {
     let shape = Shape {
         layout: Layout::Csc,
         n: n,
         p: p,
     };
-    solvers::coordinate_descent(
+    preparation::prepare(shape, starts, rows, values, y, prepared)
+}
+
+pub fn solve<'a, 'b, 'c, 'd, 'e, 'f, 'g>(
+    starts: &'a [u32],
+    rows: &'a [u32],
+    values: &'a [f64],
+    n: usize,
+    p: usize,
+    y: &'b [f64],
+    prepared: &'c [f64],
+    settings: Settings,
+    w: &'d mut [f64],
+    fit: &'e mut [f64],
+    indices: &'f mut [u32],
+    scratch: &'g mut [f64],
+) -> Fit
+    ensures { λ r. ⌜ (let g = given (cscShape n p) (now (starts .entry)) (now (rows .entry)) (now (values .entry)) (now (y .entry)) in
+        let b = call.lent (now (w .entry)) (now (fit .entry)) (now (indices .entry)) (now (scratch .entry)) in
+        (call.fitOf r ≡ call.solveCall g settings (now (prepared .entry)) b)
+        × (call.lent (now (w .exit)) (now (fit .exit)) (now (indices .exit)) (now (scratch .exit))
+        ≡ call.solveLeft g settings (now (prepared .entry)) b)) ⌝ }
+{
+    let shape = Shape {
+        layout: Layout::Csc,
+        n: n,
+        p: p,
+    };
+    solvers::solve(
         shape,
         starts,
         rows,
         values,
         y,
+        prepared,
         settings,
         w,
         fit,
@@ -97,7 +123,7 @@ pub fn initialize<'a, 'b, 'c>(
     prepared: &'c mut [f64],
 ) -> Verdict
     ensures { λ r. ⌜ (let g = given (cscShape n p) (now (starts .entry)) (now (rows .entry)) (now (values .entry)) (now (y .entry)) in
-        (verdictOf r ≡ calls.initializeFault g (now (prepared .entry)))
+        (verdictOf r ≡ checks'.preparationFault g (now (prepared .entry)))
         × (now (prepared .exit) ≡ calls.initialized g (now (prepared .entry)))) ⌝ }
 {
     let shape = Shape {

@@ -5,7 +5,9 @@ ghost use mathlib.Core.Path.{_≡_};
 ghost use Rattle.doubles.specs.Answer.{numberOf, verdictOf};
 ghost use Rattle.designs.specs.Design.{cscShape};
 ghost use Rattle.designs.specs.Given.{given};
+ghost use Rattle.designs.specs.Checks as checks';
 ghost use Rattle.datafits.specs.Calls as calls;
+ghost use Rattle.definition.specs.Preparation as prep;
 ghost use Rattle.definition.specs.Call as call;
 ghost use Rattle.views.specs.Check.{designFault};
 use definition::Fit;
@@ -40,30 +42,48 @@ pub fn check<'a>(x: CSCArray<'a>, n: usize, p: usize) -> Verdict
     inner::check(x.starts, x.rows, x.values, n, p)
 }
 
-// The whole call.
-pub fn coordinate_descent_sparse<'a, 'b, 'c, 'd, 'e, 'f>(
+// The preparation: the constants, then X'y, into the first 2p places of a lent buffer, where all of them can be used.
+pub fn prepare_sparse<'a, 'b, 'c>(
     x: CSCArray<'a>,
     n: usize,
     p: usize,
     y: &'b [f64],
+    prepared: &'c mut [f64],
+) -> Verdict
+    ensures { λ r. ⌜ (let g = given (cscShape n p) (now (x .entry .starts)) (now (x .entry .rows)) (now (x .entry .values)) (now (y .entry)) in
+        (verdictOf r ≡ prep.prepareCall g (now (prepared .entry)))
+        × (now (prepared .exit) ≡ prep.prepareLeft g (now (prepared .entry)))) ⌝ }
+{
+    inner::prepare(x.starts, x.rows, x.values, n, p, y, prepared)
+}
+
+// The solve with prepared numbers.
+pub fn solve_sparse<'a, 'b, 'c, 'd, 'e, 'f, 'g>(
+    x: CSCArray<'a>,
+    n: usize,
+    p: usize,
+    y: &'b [f64],
+    prepared: &'c [f64],
     settings: Settings,
-    w: &'c mut [f64],
-    fit: &'d mut [f64],
-    indices: &'e mut [u32],
-    scratch: &'f mut [f64],
+    w: &'d mut [f64],
+    fit: &'e mut [f64],
+    indices: &'f mut [u32],
+    scratch: &'g mut [f64],
 ) -> Fit
     ensures { λ r. ⌜ (let g = given (cscShape n p) (now (x .entry .starts)) (now (x .entry .rows)) (now (x .entry .values)) (now (y .entry)) in
         let b = call.lent (now (w .entry)) (now (fit .entry)) (now (indices .entry)) (now (scratch .entry)) in
-        (call.fitOf r ≡ call.fitCall g settings b)
-        × (call.lent (now (w .exit)) (now (fit .exit)) (now (indices .exit)) (now (scratch .exit)) ≡ call.fitLeft g settings b)) ⌝ }
+        (call.fitOf r ≡ call.solveCall g settings (now (prepared .entry)) b)
+        × (call.lent (now (w .exit)) (now (fit .exit)) (now (indices .exit)) (now (scratch .exit))
+        ≡ call.solveLeft g settings (now (prepared .entry)) b)) ⌝ }
 {
-    inner::coordinate_descent(
+    inner::solve(
         x.starts,
         x.rows,
         x.values,
         n,
         p,
         y,
+        prepared,
         settings,
         w,
         fit,
@@ -96,7 +116,7 @@ pub fn initialize_sparse<'a, 'b, 'c>(
     prepared: &'c mut [f64],
 ) -> Verdict
     ensures { λ r. ⌜ (let g = given (cscShape n p) (now (x .entry .starts)) (now (x .entry .rows)) (now (x .entry .values)) (now (y .entry)) in
-        (verdictOf r ≡ calls.initializeFault g (now (prepared .entry)))
+        (verdictOf r ≡ checks'.preparationFault g (now (prepared .entry)))
         × (now (prepared .exit) ≡ calls.initialized g (now (prepared .entry)))) ⌝ }
 {
     inner::initialize(x.starts, x.rows, x.values, n, p, y, prepared)

@@ -2,7 +2,7 @@
 // p constants, then X'y.
 ghost use mathlib.Core.Path.{_≡_};
 ghost use Prim.Native.Nat.{ℕ, _+_, _<_, _≤_};
-ghost use lib.ListN.{length, getD, take};
+ghost use lib.ListN.{length, getD};
 ghost use Rattle.designs.specs.Design as design;
 ghost use Rattle.designs.specs.Inner.Sound.{Whole};
 ghost use Rattle.definition.specs.Epoch as def;
@@ -17,7 +17,7 @@ use designs::Feature;
 use designs::Shape;
 use doubles::is_finite;
 use doubles::larger;
-use passes::gradients_behind;
+use passes::all_gradients;
 use penalties::inner::violation;
 use penalties::separable::Penalty;
 use penalties::separable::prox;
@@ -45,19 +45,18 @@ fn violation_at(penalty: Penalty, w: f64, g: f64) -> Worst
     Worst::Is(v)
 }
 
-// Each gradient, from place 2p of the scratch on, becomes that feature's violation; the largest.
-fn finish_violations(p: usize, penalty: Penalty, w: &[f64], scratch: &mut [f64]) -> Worst
-    requires { ⌜ (p ≤ 8192) × (p ≤ length (now w)) × (p + p + p ≤ length (now scratch)) ⌝ }
-    ensures { λ r. ⌜ (reading'.measuredOf r (now (scratch .exit)) ≡ reading'.finished penalty (now (w .entry)) p (now (scratch .entry)))
-        × (take (p + p) (now (scratch .exit)) ≡ take (p + p) (now (scratch .entry))) ⌝ }
+// Each gradient becomes that feature's violation; the largest.
+fn finish_violations(penalty: Penalty, w: &[f64], gradients: &mut [f64]) -> Worst
+    requires { ⌜ length (now gradients) ≤ length (now w) ⌝ }
+    ensures { λ r. ⌜ reading'.measuredOf r (now (gradients .exit)) ≡ reading'.finished penalty (now (w .entry)) (now (gradients .entry)) ⌝ }
 {
     let mut largest = -(1.0 / 0.0);
     let mut j = 0;
-    while j < p {
-        match violation_at(penalty, weight(w, Feature(j)), scratch[p + p + j]) {
+    while j < gradients.len() {
+        match violation_at(penalty, weight(w, Feature(j)), gradients[j]) {
             Worst::Bad => return Worst::Bad,
             Worst::Is(v) => {
-                scratch[p + p + j] = v;
+                gradients[j] = v;
                 largest = larger(largest, v);
             }
         }
@@ -66,27 +65,25 @@ fn finish_violations(p: usize, penalty: Penalty, w: &[f64], scratch: &mut [f64])
     Worst::Is(largest)
 }
 
-// The violations of all features into places 2p to 3p of the scratch; the largest.
+// The violations of all features into p places; the largest.
 pub fn opt_cond_violation(
     shape: Shape,
     starts: &[u32],
     rows: &[u32],
     values: &[f64],
     penalty: Penalty,
+    prepared: &[f64],
     w: &[f64],
     fit: &[f64],
-    scratch: &mut [f64],
+    violations: &mut [f64],
 ) -> Worst
-    requires { ⌜ (shape .n ≤ 65536) × (shape .p ≤ 8192) × (length (now w) ≡ shape .p)
-        × (shape .p + shape .p + shape .p ≤ length (now scratch)) × Whole shape (now starts) (now rows) (now values)
-        × (length (now fit) ≡ shape .n) ⌝ }
-    ensures { λ r. ⌜ (let prepared = take (shape .p + shape .p) (now (scratch .entry)) in
-        let T = def.task shape (now (starts .entry)) (now (rows .entry)) (now (values .entry)) penalty prepared in
-        (reading'.measuredOf r (now (scratch .exit)) ≡ reading'.measured T (now (w .entry)) (now (fit .entry)) (now (scratch .entry)))
-        × (take (shape .p + shape .p) (now (scratch .exit)) ≡ take (shape .p + shape .p) (now (scratch .entry)))) ⌝ }
+    requires { ⌜ (shape .n ≤ 65536) × (length (now w) ≡ shape .p) × (length (now prepared) ≡ shape .p + shape .p)
+        × Whole shape (now starts) (now rows) (now values) × (length (now fit) ≡ shape .n) × (length (now violations) ≡ shape .p) ⌝ }
+    ensures { λ r. ⌜ (let T = def.task shape (now (starts .entry)) (now (rows .entry)) (now (values .entry)) penalty (now (prepared .entry)) in
+        reading'.measuredOf r (now (violations .exit)) ≡ reading'.measured T (now (w .entry)) (now (fit .entry))) ⌝ }
 {
-    gradients_behind(shape, starts, rows, values, fit, scratch);
-    finish_violations(shape.p, penalty, w, scratch)
+    all_gradients(shape, starts, rows, values, prepared, fit, violations);
+    finish_violations(penalty, w, violations)
 }
 
 // The largest violation of a working set.

@@ -11,19 +11,47 @@ use lib.Ieee.{Float}
 use Rattle.doubles.specs.Num.{_and_}
 use Rattle.doubles.specs.Buffer.{put}
 use Rattle.doubles.proofs.Laws.Parts.{part-at}
-use Rattle.doubles.specs.Answer.{Outcome, refused, answered}
-use Rattle.designs.specs.Given.{given}
-use Rattle.definition.specs.Call.{Lent}
+use Rattle.doubles.specs.Answer.{Outcome, refused, answered, verdictOf}
+use Rattle.doubles.specs.declared.Refusal.{Refusal}
+use Rattle.doubles.specs.declared.Verdict.{Verdict}
+use Rattle.doubles.specs.declared.Verdict.the-variants as Verdict
+use Rattle.doubles.proofs.Laws.Verdict.{stop, pass}
+use Rattle.designs.specs.Given.{Given, given}
+use Rattle.definition.specs.Preparation.{prepareCall, prepareLeft}
+use Rattle.definition.specs.Call.{Lent, earlyFault, answer, buffers, solveCall, solveLeft}
+use Rattle.definition.specs.Pair.{pairEnd, orderedEnd}
+use Rattle.definition.specs.declared.Settings.{Settings}
 use Rattle.definition.specs.declared.Report.{Report}
 use Rattle.files.specs.Call.{Problem, parsed, Places, places, placesSuffice, withRoom, readProblem, sizesOf, sizesAnswered, readCall, filledPlaces, readLeft}
 use Rattle.files.specs.declared.Sizes.{Sizes}
 use Rattle.listings.specs.Call.{writeCall, writeLeft}
 use Rattle.listings.proofs.Laws.Calls.{write-fits}
+use Rattle.answers.specs.Printed.{preparedPlaces}
 use Rattle.answers.specs.Printed.{problemFit, problemLeft, printedFor, printed, textCall, textLeft, answerCall, answerLeft}
 use Rattle.answers.specs.Inner.InPlaces.{ProblemInside, problemIn}
 
 take-few : (p m : ℕ) (l : List Float) → p ≤ length l → p ≤ m → length (take p l) ≤ m
 take-few p m l h k = le-trans (le-of-eq (length-take-le p l h)) k
+
+-- ---- the fit of a problem
+module _ (g : Given) (S : Settings) (b : Lent) (early : Verdict) (e : verdictOf early ≡ earlyFault g S) where
+  abbrev pub Fitted : Outcome Report → Lent → Type 0
+  Fitted o b' = (o ≡ answer S (orderedEnd g S preparedPlaces b)) × (b' ≡ buffers (g .shape) S b (orderedEnd g S preparedPlaces b))
+
+  pub early-refused : (r : Refusal) → early ≡ Verdict.Refused r → Fitted (refused (r .number) (r .place)) b
+  unfolding orderedEnd
+  early-refused r h = rw (← stop early e r h) (refl, refl)
+
+  -- the sizes and the settings have passed, and the preparation leaves these numbers
+  module _ (h : early ≡ Verdict.Fine) (v : Verdict) (numbers : List Float)
+      (q : (verdictOf v ≡ prepareCall g preparedPlaces) × (numbers ≡ prepareLeft g preparedPlaces)) where
+    pub preparation-refused : (r : Refusal) → v ≡ Verdict.Refused r → Fitted (refused (r .number) (r .place)) b
+    unfolding orderedEnd pairEnd
+    preparation-refused r k = rw (← pass early e h, ← stop v (q .0) r k) (refl, refl)
+
+    pub problem-solved : v ≡ Verdict.Fine → (o : Outcome Report) (b' : Lent) → (o ≡ solveCall g S numbers b) × (b' ≡ solveLeft g S numbers b) → Fitted o b'
+    unfolding orderedEnd pairEnd solveCall solveLeft
+    problem-solved k o b' s = rw (← pass early e h, ← pass v (q .0) k, ← q .1) s
 
 -- ---- the listing of a fit
 pub fit-listed : (P : Problem) (o : Outcome Report) (b : Lent) (out out' : List ℕ) (r : Outcome ℕ) → o ≡ problemFit P → b ≡ problemLeft P

@@ -14,51 +14,51 @@ use Rattle.answers.proofs.fit_listing.Statement.{statement}
 use Rattle.answers.proofs.fit_listing.Tie as tie
 
 -- ---- behind the fit
-abbrev entry : tie.After-coordinate-descent → tie.Start
+abbrev entry : tie.After-fit-problem → tie.Start
 entry c = c .before .before .before .before .before .before .before .before .before .before .before .before .before .before .before .before
 
 -- its weights and its fit are in the first places of the program's own
-weights-there : (c : tie.After-coordinate-descent) → entry c .args .problem .shape .p ≤ length (c .coordinate-descent .last .1 .1 .1 .1 .1 .1 .0)
-weights-there c = le-trans (entry c .pre .features) (le-of-eq (sym (c .coordinate-descent .kept .1 .1 .1 .1 .1 .1 .0)))
+weights-there : (c : tie.After-fit-problem) → entry c .args .problem .shape .p ≤ length (c .fit-problem .last .1 .1 .1 .1 .1 .1 .0)
+weights-there c = le-trans (entry c .pre .features) (le-of-eq (sym (c .fit-problem .kept .1 .1 .1 .1 .1 .1 .0)))
 
-fit-there : (c : tie.After-coordinate-descent) → entry c .args .problem .shape .n ≤ length (c .coordinate-descent .last .1 .1 .1 .1 .1 .1 .1 .0)
-fit-there c = le-trans (entry c .pre .samples) (le-of-eq (sym (c .coordinate-descent .kept .1 .1 .1 .1 .1 .1 .1 .0)))
+fit-there : (c : tie.After-fit-problem) → entry c .args .problem .shape .n ≤ length (c .fit-problem .last .1 .1 .1 .1 .1 .1 .1 .0)
+fit-there c = le-trans (entry c .pre .samples) (le-of-eq (sym (c .fit-problem .kept .1 .1 .1 .1 .1 .1 .1 .0)))
 
 -- ---- the needs
-slice-aggregate-coordinate-descent : tie.Need-slice-aggregate-coordinate-descent
-slice-aggregate-coordinate-descent c =
+slice-aggregate-fit-problem : tie.Need-slice-aggregate-fit-problem
+slice-aggregate-fit-problem c =
     let start = c .before .before .before .before .before .before .before .before in
     sym (length-take-le _ _ (start .pre .starts))
 
-slice-aggregate-coordinate-descent-2 : tie.Need-slice-aggregate-coordinate-descent-2
-slice-aggregate-coordinate-descent-2 c =
+slice-aggregate-fit-problem-2 : tie.Need-slice-aggregate-fit-problem-2
+slice-aggregate-fit-problem-2 c =
     let start = c .before .before .before .before .before .before .before .before .before in
     sym (length-take-le _ _ (start .pre .rows))
 
-slice-aggregate-coordinate-descent-3 : tie.Need-slice-aggregate-coordinate-descent-3
-slice-aggregate-coordinate-descent-3 c =
+slice-aggregate-fit-problem-3 : tie.Need-slice-aggregate-fit-problem-3
+slice-aggregate-fit-problem-3 c =
     let start = c .before .before .before .before .before .before .before .before .before .before in
     sym (length-take-le _ _ (start .pre .values))
 
-slice-aggregate-coordinate-descent-4 : tie.Need-slice-aggregate-coordinate-descent-4
-slice-aggregate-coordinate-descent-4 c =
+slice-aggregate-fit-problem-4 : tie.Need-slice-aggregate-fit-problem-4
+slice-aggregate-fit-problem-4 c =
     let start = c .before .before .before .before .before .before .before .before .before .before .before in
     sym (length-take-le _ _ (start .pre .targets))
 
-slice-aggregate-coordinate-descent-5 : tie.Need-slice-aggregate-coordinate-descent-5
-slice-aggregate-coordinate-descent-5 c = search needs
+slice-aggregate-fit-problem-5 : tie.Need-slice-aggregate-fit-problem-5
+slice-aggregate-fit-problem-5 c = search needs
 
-slice-aggregate-coordinate-descent-6 : tie.Need-slice-aggregate-coordinate-descent-6
-slice-aggregate-coordinate-descent-6 c = search needs
+slice-aggregate-fit-problem-6 : tie.Need-slice-aggregate-fit-problem-6
+slice-aggregate-fit-problem-6 c = search needs
 
-slice-aggregate-coordinate-descent-7 : tie.Need-slice-aggregate-coordinate-descent-7
-slice-aggregate-coordinate-descent-7 c = search needs
+slice-aggregate-fit-problem-7 : tie.Need-slice-aggregate-fit-problem-7
+slice-aggregate-fit-problem-7 c = search needs
 
-slice-aggregate-coordinate-descent-8 : tie.Need-slice-aggregate-coordinate-descent-8
-slice-aggregate-coordinate-descent-8 c = search needs
+slice-aggregate-fit-problem-8 : tie.Need-slice-aggregate-fit-problem-8
+slice-aggregate-fit-problem-8 c = search needs
 
-coordinate-descent-requires : tie.Need-coordinate-descent-requires
-coordinate-descent-requires c κs = search needs
+fit-problem-requires : tie.Need-fit-problem-requires
+fit-problem-requires c κs = search needs
 
 array-share-prefix-w : tie.Need-array-share-prefix-w
 array-share-prefix-w c = search needs
@@ -83,7 +83,7 @@ unfolding problemFit problemLeft
 returns c =
     let told = c .before .before .write-listing .ensures in
     let behind = c .before .before .before .before .before .before .before .before .before .before in
-    let fit = behind .coordinate-descent in
+    let fit = behind .fit-problem in
     let l = fit .last .1 .1 .1 .1 .1 .1 in
     let left-there = lent (l .0) (l .1 .0) (l .1 .1 .0) (l .1 .1 .1 .0) in
     let start = entry behind in
@@ -97,15 +97,15 @@ pub fit-listing-spec : {M : Type 1} → statement M
 fit-listing-spec =
     tie.close
     (tie.spec
-    slice-aggregate-coordinate-descent
-    slice-aggregate-coordinate-descent-2
-    slice-aggregate-coordinate-descent-3
-    slice-aggregate-coordinate-descent-4
-    slice-aggregate-coordinate-descent-5
-    slice-aggregate-coordinate-descent-6
-    slice-aggregate-coordinate-descent-7
-    slice-aggregate-coordinate-descent-8
-    coordinate-descent-requires
+    slice-aggregate-fit-problem
+    slice-aggregate-fit-problem-2
+    slice-aggregate-fit-problem-3
+    slice-aggregate-fit-problem-4
+    slice-aggregate-fit-problem-5
+    slice-aggregate-fit-problem-6
+    slice-aggregate-fit-problem-7
+    slice-aggregate-fit-problem-8
+    fit-problem-requires
     array-share-prefix-w
     slice-aggregate-write-listing
     array-share-prefix-entries

@@ -4,7 +4,8 @@ use native.Mathlib.Nat.{le-of-eq}
 use borrow.Author.Tests.{leb-true, eqb-true}
 use Rattle.doubles.proofs.Laws.Verdict.{stop, stop-left, pass, pass-left}
 use Rattle.designs.proofs.Laws.Passed.{admits}
-use Rattle.datafits.specs.Calls.{initializeFault, initialized}
+use Rattle.designs.specs.Checks.{preparationFault}
+use Rattle.datafits.specs.Calls.{initialized}
 use borrow.Author.Needs.{needs}
 use Rattle.datafits.proofs.initialize.Statement.{statement}
 use Rattle.datafits.proofs.initialize.Tie as tie
@@ -34,7 +35,7 @@ same-length : tie.Need-same-length
 same-length c = search needs
 
 returns : tie.Need-returns
-unfolding initializeFault initialized
+unfolding preparationFault initialized
 returns c =
     let at-admit = c .before .before .before in
     rw (← c .before .before .before .before .room-twice .ensures)
@@ -44,7 +45,7 @@ same-length-2 : tie.Need-same-length-2
 same-length-2 c = search needs
 
 returns-2 : tie.Need-returns-2
-unfolding initializeFault initialized
+unfolding preparationFault initialized
 returns-2 c =
     let at-enum-told = c .before .before .before .before in
     let at-admit = at-enum-told .before .before in

@@ -1,17 +1,16 @@
 -- `is_usable`: the invariant is that the columns passed are usable. Assumes nothing.
 use mathlib.Core.Path.{_≡_, sym, _∙_}
 use mathlib.Core.Bool.{true}
-use Prim.Native.Nat.{_≤_, _+_, _-_}
-use Rattle.doubles.specs.Num.{at}
+use Prim.Native.Nat.{_≤_, _-_}
 use Rattle.doubles.specs.Steps.{all}
 use Rattle.doubles.proofs.Laws.Steps.{steps-none, steps-all, all-more, all-broken}
 use borrow.Author.Needs.{needs}
-use Rattle.definition.specs.Call.{usable}
+use Rattle.definition.specs.Preparation.{usableAt, allUsable}
 use Rattle.decisions.proofs.is_usable.Statement.{statement}
 use Rattle.decisions.proofs.is_usable.Tie as tie
 
 abbrev Inv-loop : tie.InvT-loop
-Inv-loop prepared p j₀ j = (j ≤ p) × (true ≡ all (λ k. usable (at prepared k) (at prepared (p + k))) j)
+Inv-loop prepared p j₀ j = (j ≤ p) × (true ≡ all (usableAt p prepared) j)
 
 abbrev μ-loop : tie.MeasureT-loop
 μ-loop prepared p j₀ j = p - j
@@ -38,6 +37,7 @@ is-usable-at-requires : tie.Need-is-usable-at-requires Inv-loop μ-loop
 is-usable-at-requires c κs = search needs
 
 returns : tie.Need-returns Inv-loop μ-loop
+unfolding allUsable
 returns c =
     all-broken _ _ _ (c .before .before .before .before .before .loop .inv .1) (sym (c .before .is-usable-at .ensures) ∙ c .if1 .left)
     (c .before .before .before .before .loop-test .taken)
@@ -55,6 +55,7 @@ loop-again c = (
 )
 
 returns-2 : tie.Need-returns-2 Inv-loop μ-loop
+unfolding allUsable
 returns-2 c = steps-all _ _ _ _ _ (c .before .loop .inv .1) (c .before .loop .inv .0) (c .loop-test .left)
 
 pub is-usable-spec : {M : Type 1} → statement M

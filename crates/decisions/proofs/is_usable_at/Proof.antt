@@ -1,6 +1,6 @@
 -- `is_usable_at`: the tests in their turn. Assumes nothing.
 use Rattle.doubles.specs.Num.{_and_, _or_}
-use Rattle.definition.specs.Call.{usable}
+use Rattle.definition.specs.Preparation.{usable}
 use borrow.Author.Needs.{needs}
 use Rattle.decisions.proofs.is_usable_at.Statement.{statement}
 use Rattle.decisions.proofs.is_usable_at.Tie as tie

@@ -29,14 +29,11 @@ returns : tie.Need-returns
 unfolding scratchRoom
 returns c = rw (c .before .before .before .if1 .taken)
 
-mul-result-3 : tie.Need-mul-result-3
-mul-result-3 c = search needs
-
 returns-2 : tie.Need-returns-2
 unfolding scratchRoom
-returns-2 c = rw (c .before .if1 .left)
+returns-2 c = rw (c .if1 .left)
 
 pub scratch-room-spec : {M : Type 1} → statement M
 scratch-room-spec =
     tie.close
-    (tie.spec mul-result add-result mul-result-2 add-result-2 returns mul-result-3 returns-2)
+    (tie.spec mul-result add-result mul-result-2 add-result-2 returns returns-2)

@@ -1,7 +1,6 @@
 -- The last turn ends a run: it is stopped, or broken off, and never going on; and what that says of a solve. Assumes nothing.
 use mathlib.Core.Path.{_≡_, refl, sym}
 use mathlib.Core.Bool.{Bool, true, false, false≢true}
-use mathlib.Core.Logic.{_⊎_, inl, inr}
 use mathlib.Core.List.{List}
 use Prim.Native.Nat.{ℕ, _+_}
 use native.Mathlib.Numerals.{add-one}
@@ -9,10 +8,10 @@ use native.Mathlib.Omega.{arith}
 use borrow.Author.Tests.{eq-eqb}
 use lib.Ieee.{Float, le}
 use Rattle.doubles.specs.Num.{pick, _or_}
-use Rattle.doubles.specs.Steps.{steps, all, Stage, going, stopped, bad, next, upto, over}
+use Rattle.doubles.specs.Steps.{steps, Stage, going, stopped, bad, next, upto, over}
 use Rattle.definition.specs.Epoch.{Task, allKnown, worst}
 use Rattle.definition.specs.Run.{State, ends, turn, start, run}
-use Rattle.definition.specs.Call.{End, untouched, givenUp, done, concluded, usableAt, solved}
+use Rattle.definition.specs.Call.{End, untouched, givenUp, done, concluded, solved}
 use Rattle.definition.specs.declared.Settings.{Settings}
 
 pub givenUp≢done : {number place : ℕ} {s : State} → givenUp number place ≡ done s → ⊥
@@ -52,31 +51,27 @@ module _ (T : Task) (y : List Float) (S : Settings) where
   -- ---- what the ending of a solve says of its run
   pub solved-begun : begun (solved T y S) ≡ true
   unfolding solved
-  solved-begun = go (all (usableAt T) (T .p)) (run T y S)
+  solved-begun = go (run T y S)
     where
-      go : (b : Bool) (r : Stage State) → begun (pick b (concluded r) (givenUp 7 0)) ≡ true
-      go true (stopped s) = refl
-      go true (going s) = refl
-      go true bad = refl
-      go false r = refl
+      go : (r : Stage State) → begun (concluded r) ≡ true
+      go (stopped s) = refl
+      go (going s) = refl
+      go bad = refl
 
   pub solved-done : (e : State) → solved T y S ≡ done e → run T y S ≡ stopped e
   unfolding solved
-  solved-done e = go (all (usableAt T) (T .p)) (run T y S)
+  solved-done e = go (run T y S)
     where
-      go : (b : Bool) (r : Stage State) → pick b (concluded r) (givenUp 7 0) ≡ done e → r ≡ stopped e
-      go true (stopped s) h = cc
-      go true (going s) h = absurd (givenUp≢done h)
-      go true bad h = absurd (givenUp≢done h)
-      go false r h = absurd (givenUp≢done h)
+      go : (r : Stage State) → concluded r ≡ done e → r ≡ stopped e
+      go (stopped s) h = cc
+      go (going s) h = absurd (givenUp≢done h)
+      go bad h = absurd (givenUp≢done h)
 
-  pub solved-given-up : (number place : ℕ) → solved T y S ≡ givenUp number place → (all (usableAt T) (T .p) ≡ false) ⊎ (run T y S ≡ bad)
+  pub solved-given-up : (number place : ℕ) → solved T y S ≡ givenUp number place → run T y S ≡ bad
   unfolding solved
-  solved-given-up number place = go (all (usableAt T) (T .p)) refl (run T y S) refl run-over
+  solved-given-up number place = go (run T y S) run-over
     where
-      go : (b : Bool) → all (usableAt T) (T .p) ≡ b → (r : Stage State) → run T y S ≡ r → over r ≡ true
-          → pick b (concluded r) (givenUp 7 0) ≡ givenUp number place → (all (usableAt T) (T .p) ≡ false) ⊎ (run T y S ≡ bad)
-      go true e (stopped s) h o q = absurd (givenUp≢done (sym q))
-      go true e (going s) h o q = absurd (false≢true o)
-      go true e bad h o q = inr h
-      go false e r h o q = inl e
+      go : (r : Stage State) → over r ≡ true → concluded r ≡ givenUp number place → r ≡ bad
+      go (stopped s) o q = absurd (givenUp≢done (sym q))
+      go (going s) o q = absurd (false≢true o)
+      go bad o q = refl

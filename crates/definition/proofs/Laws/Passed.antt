@@ -1,15 +1,18 @@
 -- What a call says that is not refused before its run, and the numbers of those refusals. Assumes nothing.
 use mathlib.Core.Path.{_≡_}
+use mathlib.Core.Bool.{Bool, true}
+use mathlib.Core.List.{List}
 use lib.Dec.{leb, lit≤}
+use lib.Ieee.{Float}
 use Rattle.doubles.specs.Num.{_and_}
-use Rattle.doubles.specs.Answer.{none, unless, _then_}
+use Rattle.doubles.specs.Answer.{none}
 use Rattle.doubles.proofs.Laws.Verdict.{AtMost, none-most, unlessAt-most, unless-most, then-most, spared, then-none}
 use Rattle.penalties.specs.Penalty.{alphaLegal, alphaOf, secondLegal, penaltyFault}
 use Rattle.designs.specs.Given.{Given}
-use Rattle.designs.specs.Checks.{sizes, sizedFault, targetsFit}
+use Rattle.designs.specs.Checks.{sizes, sizedFault, targetsFit, roomTwice}
 use Rattle.designs.proofs.Laws.Passed.{Admitted, admits-sized}
 use Rattle.designs.proofs.Laws.Numbers.{sized-most}
-use Rattle.definition.specs.Call.{startLegal, depthLegal, settingsFault, Lent, roomy, fitFault}
+use Rattle.definition.specs.Call.{startLegal, depthLegal, settingsFault, Lent, roomy, earlyFault, solveTests}
 use Rattle.definition.specs.declared.Settings.{Settings}
 
 -- ---- 1 to 6: 7 comes from the run alone
@@ -24,17 +27,28 @@ settings-most S =
     (unlessAt-most 2 5 (lit≤ tt) (alphaLegal (alphaOf (S .penalty)))
     (unlessAt-most 2 6 (lit≤ tt) (secondLegal (S .penalty)) (none-most 6)))))))
 
-module _ (g : Given) (S : Settings) (b : Lent) where
-  pub fault-most : AtMost 6 (fitFault g S b)
-  unfolding fitFault
-  fault-most =
-      unless-most 1 (lit≤ tt) (sizes (g .shape) (g .starts) (g .rows) (g .values) and targetsFit g)
-      (then-most (settingsFault S) (settings-most S) (sized-most g (roomy (g .shape) S b)))
+module _ (g : Given) (S : Settings) where
+  early-most : AtMost 6 (earlyFault g S)
+  unfolding earlyFault
+  early-most = unless-most 1 (lit≤ tt) (sizes (g .shape) (g .starts) (g .rows) (g .values) and targetsFit g) (settings-most S)
 
-  -- ---- where there is none, of its settings and its sizes
-  pub passed : fitFault g S b ≡ none → (settingsFault S ≡ none) × Admitted g (targetsFit g) (roomy (g .shape) S b)
-  unfolding fitFault
+  -- ---- where there is none
+  pub early : earlyFault g S ≡ none → ((sizes (g .shape) (g .starts) (g .rows) (g .values) and targetsFit g) ≡ true) × (settingsFault S ≡ none)
+  unfolding earlyFault
+  early e = spared (sizes (g .shape) (g .starts) (g .rows) (g .values) and targetsFit g) 1 _ e
+
+module _ (g : Given) (S : Settings) (handed : List Float) (b : Lent) where
+  abbrev room : Bool
+  room = roomTwice (g .shape .p) handed and roomy (g .shape) S b
+
+  pub tests-most : AtMost 6 (solveTests g S handed b)
+  unfolding solveTests
+  tests-most = then-most (earlyFault g S) (early-most g S) (sized-most g room)
+
+  -- of the settings, and of the design and the room
+  pub passed : solveTests g S handed b ≡ none → (settingsFault S ≡ none) × Admitted g (targetsFit g) room
+  unfolding solveTests
   passed e =
-      let sized = spared (sizes (g .shape) (g .starts) (g .rows) (g .values) and targetsFit g) 1 _ e in
-      let rest = then-none (settingsFault S) (sizedFault g (roomy (g .shape) S b)) (sized .1) in
-      (rest .0, admits-sized g (targetsFit g) (roomy (g .shape) S b) (sized .0) (rest .1))
+      let a = then-none (earlyFault g S) (sizedFault g room) e in
+      let s = early g S (a .0) in
+      (s .1, admits-sized g (targetsFit g) room (s .0) (a .1))

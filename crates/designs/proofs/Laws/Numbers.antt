@@ -15,7 +15,7 @@ use Rattle.designs.specs.declared.Found.the-variants.{At, Nowhere}
 use Rattle.designs.specs.declared.Layout.{Layout}
 use Rattle.designs.specs.declared.Layout.the-variants.{Dense, Csc}
 
-told-most : {m : ℕ} (number : ℕ) → number ≤ m → {f : Fault} (r : Found) → AtMost m f → AtMost m (told number r f)
+pub told-most : {m : ℕ} (number : ℕ) → number ≤ m → {f : Fault} (r : Found) → AtMost m f → AtMost m (told number r f)
 told-most number h (At i) k = refused-most h i
 told-most number h Nowhere k = k
 

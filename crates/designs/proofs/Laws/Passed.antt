@@ -156,7 +156,7 @@ module _ (n p : ℕ) (starts rows : List ℕ) (b : badRows n p starts rows ≡ N
       (not-second _ _ (or-fails _ _ (row-fine j k hj hk) .1) (lt-ltb 0 k h))
 
 -- ---- all of them together
-untold : (number : ℕ) (f : Found) (g : Fault) → told number f g ≡ none → (f ≡ Nowhere) × (g ≡ none)
+pub untold : (number : ℕ) (f : Found) (g : Fault) → told number f g ≡ none → (f ≡ Nowhere) × (g ≡ none)
 untold number Nowhere g e = (refl, e)
 untold number (At k) g e = absurd (refused≢answered e)
 

@@ -1,11 +1,11 @@
--- What is prepared: where it stands; that every constant is a double, and that none is below zero. Assumes nothing.
+-- What is prepared: how much it is and where it stands; that every constant is a double, and that none is below zero. Assumes nothing.
 use mathlib.Core.Path.{_≡_, refl, _∙_}
 use mathlib.Core.Bool.{true, false, true≢false}
 use mathlib.Core.List.{List}
 use Prim.Native.Nat.{ℕ, zero, suc, _+_, _*_, _≤_, _<_}
 use native.Mathlib.Nat.{mul-pos, lt-irrefl}
 use native.Mathlib.Omega.{arith}
-use lib.ListN.{List·getD-append}
+use lib.ListN.{length, length-append, List·getD-append}
 use lib.Seq.{getD-append-add}
 use lib.Dec.{T}
 use lib.Ieee.{Float, nan, inf, fin, binary64, up, down, lt, eq, fits, ofInt}
@@ -20,6 +20,12 @@ use Rattle.doubles.proofs.Laws.Order.{pos-lt, eq-zero}
 use Rattle.doubles.proofs.Laws.Below.{sum-not-below, square-not-below, div-not-below}
 use Rattle.doubles.proofs.Laws.Steps.{length-tab, getD-tab}
 use Rattle.designs.specs.Design.{Design, dot, squares, lipschitz, dots, prepared}
+
+-- ---- how many there are
+pub length-prepared : (X : Design) (y : List Float) → length (prepared X y) ≡ X .p + X .p
+unfolding prepared dots
+length-prepared X y =
+    length-append (tab (lipschitz X) (X .p)) (tab (λ j. dot X j y) (X .p)) ∙ rw (length-tab (lipschitz X) (X .p), length-tab (λ j. dot X j y) (X .p))
 
 -- ---- where they stand
 module _ (X : Design) (y : List Float) (j : ℕ) (l : j < X .p) where

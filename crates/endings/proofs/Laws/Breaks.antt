@@ -1,21 +1,21 @@
 -- A run that comes to a number that is not finite breaks off there: the test of that number fails, so its visit or check breaks off, then the epoch, the
 -- turn and the run, and the solve is given up. Assumes nothing.
-use mathlib.Core.Path.{_≡_, refl, sym, ap}
-use mathlib.Core.Bool.{Bool, true, false}
+use mathlib.Core.Path.{_≡_, refl, sym}
+use mathlib.Core.Bool.{false}
 use mathlib.Core.List.{List}
-use Prim.Native.Nat.{ℕ, _+_, _<_}
+use Prim.Native.Nat.{ℕ, _+_}
 use native.Mathlib.Omega.{arith}
 use borrow.Author.Tests.{ne-eqb}
 use lib.Dec.{eqb}
 use lib.ListN.{length, getD}
 use lib.Ieee.{Float, le}
-use Rattle.doubles.specs.Num.{finite, pick}
-use Rattle.doubles.specs.Steps.{all, bad}
+use Rattle.doubles.specs.Num.{finite}
+use Rattle.doubles.specs.Steps.{bad}
 use Rattle.doubles.proofs.Laws.Steps.{upto-over}
 use Rattle.doubles.proofs.Laws.Ends.{first-fails, second-fails, neither-holds, all-fail}
 use Rattle.definition.specs.Epoch.{Task, Point, gradientOf, known, allKnown, knownIn, movedFinite, fine, visit, visits}
 use Rattle.definition.specs.Run.{Inner, accelerated, checked, settled, epoch, epochs, State, iteration, turn, start, run}
-use Rattle.definition.specs.Call.{givenUp, concluded, usable, usableAt, solved}
+use Rattle.definition.specs.Call.{givenUp, solved}
 use Rattle.definition.specs.declared.Settings.{Settings}
 use Rattle.endings.specs.NotFinite as NotFinite
 use Rattle.endings.specs.NotFinite.{setAt, worstAt, difference}
@@ -27,17 +27,9 @@ module _ (T : Task) (y : List Float) (S : Settings) where
   Breaks = solved T y S ≡ givenUp 7 0
 
   -- ---- from the inside out
-  column-breaks : (j : ℕ) → j < T .p → usableAt T j ≡ false → Breaks
-  unfolding solved
-  column-breaks j l e = rw (all-fail (usableAt T) (T .p) j l e)
-
   run-breaks : run T y S ≡ bad → Breaks
   unfolding solved
-  run-breaks e = go (all (usableAt T) (T .p))
-    where
-      go : (b : Bool) → pick b (concluded (run T y S)) (givenUp 7 0) ≡ givenUp 7 0
-      go true = ap concluded e
-      go false = refl
+  run-breaks e = rw e
 
   turn-breaks : {t : ℕ} {s : State} → Turns T y S t s → turn T y S t s ≡ bad → Breaks
   unfolding run
@@ -86,10 +78,7 @@ module _ (T : Task) (y : List Float) (S : Settings) where
   fit-breaks v e = fine-breaks v (second-fails _ _ (second-fails _ _ e))
 
   pub solved-breaks : NotFinite T y S → Breaks
-  unfolding usable known fine
-  solved-breaks (NotFinite.constant j l e) = column-breaks j l (first-fails _ _ e)
-  solved-breaks (NotFinite.inverse j l z e) = column-breaks j l (second-fails _ _ (first-fails _ _ (neither-holds _ _ z e)))
-  solved-breaks (NotFinite.xty j l e) = column-breaks j l (second-fails _ _ (second-fails _ _ e))
+  unfolding known fine
   solved-breaks (NotFinite.gradient a e) = gradient-breaks a e
   solved-breaks (NotFinite.violation c e) = known-breaks c (second-fails _ _ e)
   solved-breaks (NotFinite.weight v e) = fine-breaks v (second-fails _ _ (first-fails _ _ e))

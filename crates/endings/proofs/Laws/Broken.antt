@@ -1,22 +1,21 @@
 -- A solve that is given up came to a number that is not finite: its last turn, that turn's last epoch, and that epoch's last visit or its check are taken
 -- apart till a number is left. Assumes nothing.
 use mathlib.Core.Path.{_≡_, refl, sym, _∙_}
-use mathlib.Core.Bool.{Bool, true, false, true≢false}
+use mathlib.Core.Bool.{Bool, true, false}
 use mathlib.Core.List.{List}
-use mathlib.Core.Logic.{_⊎_, inl, inr, ⊎-elim}
-use Prim.Native.Nat.{ℕ, _+_, _<_}
+use mathlib.Core.Logic.{⊎-elim}
+use Prim.Native.Nat.{ℕ, _+_}
 use native.Mathlib.Omega.{arith}
 use borrow.Author.Tests.{eqb-false}
 use lib.Dec.{eqb}
 use lib.ListN.{length, getD}
 use lib.Ieee.{Float, eq, le}
 use Rattle.doubles.specs.Num.{#0, pick, _or_}
-use Rattle.doubles.specs.Steps.{all, Stage, going, stopped, bad, andThen}
-use Rattle.doubles.proofs.Laws.Steps.{all-each}
+use Rattle.doubles.specs.Steps.{Stage, going, stopped, bad, andThen}
 use Rattle.doubles.proofs.Laws.Ends.{and-fails, or-fails, one-fails, going≢bad, stopped≢bad, going≢stopped, last-turn}
 use Rattle.definition.specs.Epoch.{Task, Point, constant, known, allKnown, knownIn, worstIn, movedFinite, fine, visited, visit, visits}
 use Rattle.definition.specs.Run.{Inner, accelerated, enough, checked, checks, settled, epoch, epochs, State, iteration, ends, turn, start, run}
-use Rattle.definition.specs.Call.{givenUp, usable, usableAt, solved}
+use Rattle.definition.specs.Call.{givenUp, solved}
 use Rattle.definition.specs.declared.Settings.{Settings}
 use Rattle.definition.proofs.Laws.Ends.{solved-given-up}
 use Rattle.endings.specs.NotFinite as NotFinite
@@ -26,13 +25,6 @@ use Rattle.endings.proofs.Laws.Changed.{broken-changed}
 
 module _ (T : Task) (y : List Float) (S : Settings) where
   -- ---- a test that fails has a number that is not finite
-  usable-fails : (j : ℕ) → j < T .p → usableAt T j ≡ false → NotFinite T y S
-  unfolding usable
-  usable-fails j l e =
-      ⊎-elim (λ h. NotFinite.constant j l h)
-      (λ r. ⊎-elim (λ h. let b = or-fails _ _ h in NotFinite.inverse j l (b .0) (b .1)) (λ h. NotFinite.xty j l h) (and-fails _ _ r))
-      (and-fails _ _ e)
-
   known-fails : {q : Point} {j : ℕ} → Checked T y S q j → known T (q .weights) (q .fit) j ≡ false → NotFinite T y S
   unfolding known
   known-fails c e = ⊎-elim (λ h. NotFinite.gradient (at-check c) h) (λ h. NotFinite.violation c h) (and-fails _ _ e)
@@ -156,16 +148,11 @@ module _ (T : Task) (y : List Float) (S : Settings) where
             known-fails (of-turn at (l .place) (l .inside)) (l .fails)
 
   -- ---- the run, and the solve
-  run-bad : ((j : ℕ) → j < T .p → usableAt T j ≡ true) → run T y S ≡ bad → NotFinite T y S
+  run-bad : run T y S ≡ bad → NotFinite T y S
   unfolding run
-  run-bad u r =
+  run-bad r =
       let l = last-turn (turn T y S) (start T S) (S .iterations + 1) (rw r) in
-      turn-bad (record { columns = u; inside = omega (arith, l .inside); reached = l .reached }) (l .last ∙ r)
+      turn-bad (record { inside = omega (arith, l .inside); reached = l .reached }) (l .last ∙ r)
 
   pub solved-broken : (number place : ℕ) → solved T y S ≡ givenUp number place → NotFinite T y S
-  solved-broken number place r = go (all (usableAt T) (T .p)) refl (solved-given-up T y S number place r)
-    where
-      go : (b : Bool) → all (usableAt T) (T .p) ≡ b → (all (usableAt T) (T .p) ≡ false) ⊎ (run T y S ≡ bad) → NotFinite T y S
-      go true e (inl h) = absurd (true≢false (sym e ∙ h))
-      go true e (inr h) = run-bad (all-each (usableAt T) (T .p) e) h
-      go false e h = let l = one-fails (usableAt T) (T .p) e in usable-fails (l .place) (l .inside) (l .fails)
+  solved-broken number place r = run-bad (solved-given-up T y S number place r)

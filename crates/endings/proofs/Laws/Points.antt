@@ -8,7 +8,7 @@ use Prim.Native.Nat.{ℕ, _<_}
 use lib.ListN.{length, set, length-set}
 use lib.Ieee.{Float, nan, eq}
 use Rattle.doubles.specs.Num.{_⊖_, #0, at, finite, pick}
-use Rattle.doubles.specs.Steps.{tab}
+use Rattle.doubles.specs.Steps.{tab, zeros}
 use Rattle.doubles.proofs.Laws.Choice.{and-both}
 use Rattle.doubles.proofs.Laws.Steps.{length-tab, getD-tab, set-place, all-each}
 use Rattle.doubles.proofs.Laws.Finite.{zero-finite}
@@ -16,7 +16,6 @@ use Rattle.designs.specs.Design.{moved, extrapolated}
 use Rattle.designs.proofs.Laws.Moved.{Sures, moved-elsewhere, moved-sure, zeros-sure, extrapolated-sure}
 use Rattle.definition.specs.Epoch.{Task, Point, newWeight, movedBy, movedFinite, fine, visited}
 use Rattle.definition.specs.Extrapolation.{allFinite, better, pointOf}
-use Rattle.definition.specs.Call.{zeros}
 use Rattle.definition.specs.declared.Settings.{Settings}
 use Rattle.two_runs.proofs.OneRun.{Keeps}
 use Rattle.endings.proofs.Laws.Changed.{changed-finite}

@@ -1,13 +1,12 @@
 -- One epoch, from what its parts answer to its definition. Assumes nothing.
-use mathlib.Core.Path.{_≡_, refl, sym, ap, _∙_}
+use mathlib.Core.Path.{_≡_, refl, ap, _∙_}
 use mathlib.Core.Bool.{Bool, true, false}
-use Prim.Native.Nat.{ℕ, _+_, _*_, _≤_}
+use Prim.Native.Nat.{ℕ, _+_, _≤_}
 use native.Mathlib.Nat.{le-of-eq, le-trans, le-refl}
 use native.Mathlib.Omega.{arith}
 use mathlib.Core.List.{List}
 use lib.Dec.{eqb}
-use lib.ListN.{length, take}
-use lib.Seq.{take-take}
+use lib.ListN.{length}
 use lib.Ieee.{Float, le, lt}
 use Rattle.doubles.specs.Num.{_⊗_, pick, _and_}
 use Rattle.doubles.specs.Steps.{Stage, going, stopped, bad}
@@ -62,12 +61,6 @@ module _ (T : Task) (y : List Float) (S : Settings) (ws : List ℕ) (e : ℕ) (c
       ≡ accelerated T y S ws e (innerOf c w fit (keptHere s S scratch)) (pointWith w fit)
   unfolding accelerated keptHere
   accelerated-off w fit scratch off = let z : c .extrapolations + 0 ≡ c .extrapolations = omega arith in rw (off, z)
-
--- the first 2p of the first 3p places
-pub twice-of-thrice : (p : ℕ) (l m : List Float) → take (3 * p) l ≡ take (3 * p) m → take (p + p) l ≡ take (p + p) m
-twice-of-thrice p l m e =
-    let h : p + p ≤ 3 * p = omega arith in
-    sym (take-take (p + p) (3 * p) l h) ∙ ap (take (p + p)) e ∙ take-take (p + p) (3 * p) m h
 
 -- ---- the check
 module _ (T : Task) (S : Settings) (ws : List ℕ) (outer : Float) (s : Inner) where

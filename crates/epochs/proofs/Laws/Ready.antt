@@ -14,33 +14,28 @@ use Rattle.definition.specs.Call.{scratchRoom}
 use Rattle.definition.specs.declared.Settings.{Settings}
 use Rattle.definition.proofs.Laws.Settings.{deep, shallow}
 use Rattle.extrapolation.specs.Inner.Places.{StepReady}
-use Rattle.extrapolation.proofs.Laws.Scratch.{old-behind, room-split}
+use Rattle.extrapolation.proofs.Laws.Scratch.{room-split}
 use Rattle.epochs.specs.Inner.Reading.{Ready, Features}
 
 -- ---- the scratch's room
 module _ (s : Shape) (S : Settings) where
-  pub room-on : S .extrapolate ≡ true → scratchRoom s S ≡ (2 * S .depth + 5) * s .p + s .n
+  pub room-on : S .extrapolate ≡ true → scratchRoom s S ≡ (2 * S .depth + 3) * s .p + s .n
   unfolding scratchRoom
   room-on on = rw on
 
-  -- 3p at least
-  pub room-thrice : s .p + s .p + s .p ≤ scratchRoom s S
+  -- p at least
+  room-once : s .p ≤ scratchRoom s S
   unfolding scratchRoom
-  room-thrice = go (S .extrapolate)
+  room-once = go (S .extrapolate)
     where
-      go : (b : Bool) → s .p + s .p + s .p ≤ pick b ((2 * S .depth + 5) * s .p + s .n) (3 * s .p)
-      go true =
-          let q = old-behind (S .depth) (s .p) in
-          let r = room-split (S .depth) (s .p) (s .n) in
-          omega arith
+      go : (b : Bool) → s .p ≤ pick b ((2 * S .depth + 3) * s .p + s .n) (s .p)
+      go true = let r = room-split (S .depth) (s .p) (s .n) in omega arith
       go false = omega arith
 
 module _ {g : Given} {S : Settings} {w fit scratch : List Float} (R : Ready g S w fit scratch) where
-  pub room-for : g .shape .p + g .shape .p + g .shape .p ≤ length scratch
-  room-for = le-trans (room-thrice (g .shape) S) (le-of-eq (sym (R .room)))
-
-  pub room-twice : g .shape .p + g .shape .p ≤ length scratch
-  room-twice = let q = room-for in omega arith
+  -- the violations have their places
+  pub room-for : g .shape .p ≤ length scratch
+  room-for = le-trans (room-once (g .shape) S) (le-of-eq (sym (R .room)))
 
   -- buffers of the same lengths are as ready
   pub ready-still : (w' fit' scratch' : List Float) → length w' ≡ length w → length fit' ≡ length fit → length scratch' ≡ length scratch

@@ -1,11 +1,10 @@
 -- `accelerate`: with extrapolation on, what the step left; else the point stays. Assumes nothing.
 use Rattle.epochs.proofs.Laws.Ready.{step-ready}
-use Rattle.epochs.proofs.Laws.Epochs.{taken-few, accelerated-on, accelerated-off, twice-of-thrice}
-use mathlib.Core.Path.{refl}
+use Rattle.epochs.proofs.Laws.Epochs.{taken-few, accelerated-on, accelerated-off}
+use mathlib.Core.List.{[]}
 use Prim.Native.Nat.{_≤_}
 use native.Mathlib.Omega.{arith}
 use native.Mathlib.Nat.{le-refl}
-use denote.Ref.{now}
 use borrow.Author.Needs.{needs}
 use Rattle.epochs.proofs.accelerate.Statement.{statement}
 use Rattle.epochs.proofs.accelerate.Tie as tie
@@ -19,7 +18,7 @@ on c = c .before .before .before .before
 
 -- a step takes one point at most
 few : (c : tie.After-anderson-accel) → c .anderson-accel .result ≤ 1
-few c = taken-few _ _ _ _ _ _ _ _ _ _ (c .anderson-accel .ensures .0)
+few c = taken-few _ _ _ _ _ _ _ _ _ _ (c .anderson-accel .ensures .0 [])
 
 -- ---- the needs
 anderson-accel-requires : tie.Need-anderson-accel-requires
@@ -51,18 +50,13 @@ returns c =
     let step = c .before .before .before .before .before .before .before .before in
     let e = step .anderson-accel .ensures in
     let taken = few step in
-    let a = entry (on step) .args in (
-      accelerated-on _ _ _ _ _ _ _ _ _ _ _ _ _ _ (on step .if1 .taken) (e .0) (e .1),
-      twice-of-thrice (a .shape .p) (step .anderson-accel .last .1 .1 .1 .1 .1 .1 .1 .1 .1 .1 .1 .0) (now (a .scratch)) (e .2),
-      le-refl _,
-      omega arith,
-    )
+    (λ q. accelerated-on _ _ _ _ _ _ _ _ _ _ _ _ _ _ (on step .if1 .taken) (e .0 q) (e .1), le-refl _, omega arith)
 
 add-t24 : tie.Need-add-t24
 add-t24 c = search needs
 
 returns-2 : tie.Need-returns-2
-returns-2 c = (accelerated-off _ _ _ _ _ _ _ _ _ _ (c .before .if1 .left), refl, le-refl _, omega arith)
+returns-2 c = (λ q. accelerated-off _ _ _ _ _ _ _ _ _ _ (c .before .if1 .left), le-refl _, omega arith)
 
 pub accelerate-spec : {M : Type 1} → statement M
 accelerate-spec =

@@ -13,15 +13,15 @@ use Rattle.epochs.proofs.run_epochs.Statement.{statement}
 use Rattle.epochs.proofs.run_epochs.Tie as tie
 
 abbrev Inv-loop : tie.InvT-loop
-Inv-loop shape starts rows values y settings outer ws w₀ fit₀ scratch₀ counts₀ e₀ w fit scratch counts e =
-    (e ≤ settings .epochs) × Reached (given shape starts rows values y) settings ws outer counts₀ w₀ fit₀ scratch₀ e counts w fit scratch
+Inv-loop shape starts rows values y prepared settings outer ws w₀ fit₀ scratch₀ counts₀ e₀ w fit scratch counts e =
+    (e ≤ settings .epochs) × Reached (given shape starts rows values y) prepared settings ws outer counts₀ w₀ fit₀ scratch₀ e counts w fit scratch
 
 abbrev μ-loop : tie.MeasureT-loop
-μ-loop shape starts rows values y settings outer ws w₀ fit₀ scratch₀ counts₀ e₀ w fit scratch counts e = settings .epochs - e
+μ-loop shape starts rows values y prepared settings outer ws w₀ fit₀ scratch₀ counts₀ e₀ w fit scratch counts e = settings .epochs - e
 
 -- ---- the places: the turn begun, its test passed, and its epoch run
 abbrev entry : tie.At-loop Inv-loop μ-loop → tie.Start Inv-loop μ-loop
-entry c = c .before .before .before .before .before .before .before .before .before
+entry c = c .before .before .before .before .before .before .before .before .before .before
 
 abbrev turn : tie.Then1 Inv-loop μ-loop → tie.At-loop Inv-loop μ-loop
 turn c = c .before .before
@@ -35,20 +35,20 @@ few c = few-epochs _ (entry c .pre .0 .legal)
 
 -- an epoch leaves the buffers as long as they were lent
 weights-long : (c : tie.After-run-epoch Inv-loop μ-loop)
-    → length (c .run-epoch .last .1 .1 .1 .1 .1 .1 .1 .1 .1 .0) ≡ length (now (entry (turn (tested c)) .args .w))
-weights-long c = c .run-epoch .kept .1 .1 .1 .1 .1 .1 .1 .1 .1 .0 ∙ turn (tested c) .loop .inv .1 .held .weights
+    → length (c .run-epoch .last .1 .1 .1 .1 .1 .1 .1 .1 .1 .1 .0) ≡ length (now (entry (turn (tested c)) .args .w))
+weights-long c = c .run-epoch .kept .1 .1 .1 .1 .1 .1 .1 .1 .1 .1 .0 ∙ turn (tested c) .loop .inv .1 .held .weights
 
 fit-long : (c : tie.After-run-epoch Inv-loop μ-loop)
-    → length (c .run-epoch .last .1 .1 .1 .1 .1 .1 .1 .1 .1 .1 .0) ≡ length (now (entry (turn (tested c)) .args .fit))
-fit-long c = c .run-epoch .kept .1 .1 .1 .1 .1 .1 .1 .1 .1 .1 .0 ∙ turn (tested c) .loop .inv .1 .held .fits
+    → length (c .run-epoch .last .1 .1 .1 .1 .1 .1 .1 .1 .1 .1 .1 .0) ≡ length (now (entry (turn (tested c)) .args .fit))
+fit-long c = c .run-epoch .kept .1 .1 .1 .1 .1 .1 .1 .1 .1 .1 .1 .0 ∙ turn (tested c) .loop .inv .1 .held .fits
 
 scratch-long : (c : tie.After-run-epoch Inv-loop μ-loop)
-    → length (c .run-epoch .last .1 .1 .1 .1 .1 .1 .1 .1 .1 .1 .1 .0) ≡ length (now (entry (turn (tested c)) .args .scratch))
-scratch-long c = c .run-epoch .kept .1 .1 .1 .1 .1 .1 .1 .1 .1 .1 .1 .0 ∙ turn (tested c) .loop .inv .1 .held .room
+    → length (c .run-epoch .last .1 .1 .1 .1 .1 .1 .1 .1 .1 .1 .1 .1 .0) ≡ length (now (entry (turn (tested c)) .args .scratch))
+scratch-long c = c .run-epoch .kept .1 .1 .1 .1 .1 .1 .1 .1 .1 .1 .1 .1 .0 ∙ turn (tested c) .loop .inv .1 .held .room
 
 -- ---- the needs
 loop-holds : tie.Need-loop-holds Inv-loop μ-loop
-loop-holds c = (search needs, reached-none _ _ _ _ _ _ _ _)
+loop-holds c = (search needs, reached-none _ _ _ _ _ _ _ _ _)
 
 run-epoch-requires : tie.Need-run-epoch-requires Inv-loop μ-loop
 run-epoch-requires c κs =
@@ -59,10 +59,11 @@ run-epoch-requires c κs =
     let below = begun .loop .inv .0 in
     let epochs-then = reached .epochs in
     let extrapolations-then = reached .extrapolations in
-    let epochs-first = start .pre .2 .epochs in
-    let extrapolations-first = start .pre .2 .extrapolations in (
+    let epochs-first = start .pre .3 .epochs in
+    let extrapolations-first = start .pre .3 .extrapolations in (
       ready-still (start .pre .0) _ _ _ (reached .held .weights) (reached .held .fits) (reached .held .room),
       start .pre .1,
+      start .pre .2,
       record { epochs = omega arith; extrapolations = omega arith },
     )
 
@@ -85,7 +86,7 @@ returns : tie.Need-returns Inv-loop μ-loop
 returns c =
     let ran = c .before .before .before .before .before .before .before .before .before in
     let test = tested ran in
-    let stopped = reached-stopped _ _ _ _ (turn test .loop .inv .1) _ _ _ _ (ran .run-epoch .ensures) (test .if1 .taken) in
+    let stopped = reached-stopped _ _ _ _ _ (turn test .loop .inv .1) _ _ _ _ (ran .run-epoch .ensures) (test .if1 .taken) in
     stopped (few (turn test)) _ (c .before .c2 .given .1)
 
 enum-told : tie.Need-enum-told Inv-loop μ-loop
@@ -104,7 +105,7 @@ returns-2 : tie.Need-returns-2 Inv-loop μ-loop
 returns-2 c =
     let ran = c .before .before .before .before .before .before .before .before in
     let test = tested ran in
-    let broken = reached-bad _ _ _ _ (turn test .loop .inv .1) _ _ _ _ (ran .run-epoch .ensures) (test .if1 .taken) in
+    let broken = reached-bad _ _ _ _ _ (turn test .loop .inv .1) _ _ _ _ (ran .run-epoch .ensures) (test .if1 .taken) in
     broken (few (turn test)) (c .enum-told .given .1)
 
 add-e : tie.Need-add-e Inv-loop μ-loop
@@ -116,8 +117,8 @@ loop-less c = search needs
 loop-again : tie.Need-loop-again Inv-loop μ-loop
 loop-again c =
     let ran = c .before .before .before .before .before .before .before .before .before in
-    let kept = ran .run-epoch .kept .1 .1 .1 .1 .1 .1 .1 .1 .1 in
-    let more = reached-more _ _ _ _ (turn (tested ran) .loop .inv .1) _ _ _ _ (ran .run-epoch .ensures) _ (c .before .c .given .1) in
+    let kept = ran .run-epoch .kept .1 .1 .1 .1 .1 .1 .1 .1 .1 .1 in
+    let more = reached-more _ _ _ _ _ (turn (tested ran) .loop .inv .1) _ _ _ _ (ran .run-epoch .ensures) _ (c .before .c .given .1) in
     (search needs, more (kept .0) (kept .1 .0) (kept .1 .1 .0))
 
 same-length-7 : tie.Need-same-length-7 Inv-loop μ-loop
@@ -132,7 +133,7 @@ same-length-9 c = c .before .before .loop .inv .1 .held .room
 returns-3 : tie.Need-returns-3 Inv-loop μ-loop
 returns-3 c =
     let begun = c .before .before in
-    reached-all _ _ _ _ (begun .loop .inv .1) (begun .loop .inv .0) (c .if1 .left) (few begun)
+    reached-all _ _ _ _ _ (begun .loop .inv .1) (begun .loop .inv .0) (c .if1 .left) (few begun)
 
 pub run-epochs-spec : {M : Type 1} → statement M
 run-epochs-spec =

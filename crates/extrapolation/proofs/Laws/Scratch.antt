@@ -19,15 +19,18 @@ use Rattle.extrapolation.specs.Inner.Places.{keptIn, oldAt, fitAt}
 use Rattle.extrapolation.proofs.Laws.System.{rows-small}
 
 -- ---- sizes
-pub old-behind : (K p : ℕ) → 3 * p + suc K * p ≤ (2 * K + 4) * p
-old-behind K p = le-trans (le-of-eq (sym (add-mul 3 (suc K) p))) (mul-le-mul-right p (omega arith))
+pub old-behind : (K p : ℕ) → p + suc K * p ≤ (2 * K + 2) * p
+old-behind K p =
+    let q = suc-mul (suc K) p in
+    let r : suc (suc K) * p ≤ (2 * K + 2) * p = mul-le-mul-right p (omega arith) in
+    omega arith
 
-pub room-split : (K p n : ℕ) → (2 * K + 5) * p + n ≡ (2 * K + 4) * p + p + n
-room-split K p n = let q : 2 * K + 5 ≡ suc (2 * K + 4) = omega arith in rw (q, suc-mul (2 * K + 4) p)
+pub room-split : (K p n : ℕ) → (2 * K + 3) * p + n ≡ (2 * K + 2) * p + p + n
+room-split K p n = let q : 2 * K + 3 ≡ suc (2 * K + 2) = omega arith in rw (q, suc-mul (2 * K + 2) p)
 
 -- ---- of a shape and a depth
 module _ (s : Shape) (K : ℕ) where
-  pub kept-read : (l : List Float) (a b : ℕ) → a ≡ 3 * s .p → b ≡ a + suc K * s .p → take (b - a) (drop a l) ≡ keptIn s K l
+  pub kept-read : (l : List Float) (a b : ℕ) → a ≡ s .p → b ≡ a + suc K * s .p → take (b - a) (drop a l) ≡ keptIn s K l
   unfolding keptIn
   kept-read l a b ha hb = let q : b - a ≡ suc K * s .p = omega arith in rw (q, ha)
 
@@ -35,42 +38,42 @@ module _ (s : Shape) (K : ℕ) where
   kept-long l a b h k = le-of-eq (sym (part-long l a b (suc K * s .p) h k))
 
   -- what is kept, beside a part put behind it
-  pub kept-beside : (l xs : List Float) (o : ℕ) → (2 * K + 4) * s .p ≤ o → o ≤ length l → keptIn s K (put l o xs) ≡ keptIn s K l
+  pub kept-beside : (l xs : List Float) (o : ℕ) → (2 * K + 2) * s .p ≤ o → o ≤ length l → keptIn s K (put l o xs) ≡ keptIn s K l
   unfolding keptIn
-  kept-beside l xs o h k = let q = old-behind K (s .p) in part-before l o (3 * s .p) (suc K * s .p) xs (omega arith) k
+  kept-beside l xs o h k = let q = old-behind K (s .p) in part-before l o (s .p) (suc K * s .p) xs (omega arith) k
 
   -- the weights put by, as they were lent and came back
-  pub old-put : (l xs w : List Float) (o f : ℕ) → o ≡ (2 * K + 4) * s .p → f ≡ o + s .p → xs ≡ w → length w ≡ s .p
+  pub old-put : (l xs w : List Float) (o f : ℕ) → o ≡ (2 * K + 2) * s .p → f ≡ o + s .p → xs ≡ w → length w ≡ s .p
       → putMid o (f - o) l xs ≡ put l (oldAt s K) w
   unfolding oldAt
   old-put l xs w o f ho hf e h =
       let q : f - o ≡ s .p = omega arith in
       put-back l o (s .p) (f - o) xs q (ap length e ∙ h) ∙ rw (ho, e)
 
-  kept-old : (l w : List Float) → length l ≡ (2 * K + 5) * s .p + s .n → keptIn s K (put l (oldAt s K) w) ≡ keptIn s K l
+  kept-old : (l w : List Float) → length l ≡ (2 * K + 3) * s .p + s .n → keptIn s K (put l (oldAt s K) w) ≡ keptIn s K l
   unfolding oldAt
-  kept-old l w k = let r = room-split K (s .p) (s .n) in kept-beside l w ((2 * K + 4) * s .p) (omega arith) (omega arith)
+  kept-old l w k = let r = room-split K (s .p) (s .n) in kept-beside l w ((2 * K + 2) * s .p) (omega arith) (omega arith)
 
   -- so what is kept is read beside them
-  pub kept-then : (l xs w : List Float) (a b o f : ℕ) → a ≡ 3 * s .p → b ≡ a + suc K * s .p → o ≡ (2 * K + 4) * s .p → f ≡ o + s .p
-      → xs ≡ w → length w ≡ s .p → length l ≡ (2 * K + 5) * s .p + s .n → take (b - a) (drop a (putMid o (f - o) l xs)) ≡ keptIn s K l
+  pub kept-then : (l xs w : List Float) (a b o f : ℕ) → a ≡ s .p → b ≡ a + suc K * s .p → o ≡ (2 * K + 2) * s .p → f ≡ o + s .p
+      → xs ≡ w → length w ≡ s .p → length l ≡ (2 * K + 3) * s .p + s .n → take (b - a) (drop a (putMid o (f - o) l xs)) ≡ keptIn s K l
   kept-then l xs w a b o f ha hb ho hf e h k =
       kept-read (putMid o (f - o) l xs) a b ha hb ∙ ap (keptIn s K) (old-put l xs w o f ho hf e h) ∙ kept-old l w k
 
   -- both parts
-  pub both-put : (l xs w ys fit : List Float) (o f e : ℕ) → o ≡ (2 * K + 4) * s .p → f ≡ o + s .p → e ≡ f + s .n → xs ≡ w → length w ≡ s .p
+  pub both-put : (l xs w ys fit : List Float) (o f e : ℕ) → o ≡ (2 * K + 2) * s .p → f ≡ o + s .p → e ≡ f + s .n → xs ≡ w → length w ≡ s .p
       → ys ≡ fit → length ys ≡ s .n → putMid f (e - f) (putMid o (f - o) l xs) ys ≡ put (put l (oldAt s K) w) (fitAt s K) fit
   unfolding fitAt
   both-put l xs w ys fit o f e ho hf he ex hw ey hy =
       let q : e - f ≡ s .n = omega arith in
-      let g : f ≡ (2 * K + 4) * s .p + s .p = omega arith in
+      let g : f ≡ (2 * K + 2) * s .p + s .p = omega arith in
       put-back (putMid o (f - o) l xs) f (s .n) (e - f) ys q hy
       ∙ ap (λ (z : List Float). put z f ys) (old-put l xs w o f ho hf ex hw)
       ∙ rw (g, ey)
 
 -- ---- how long the parts are that are read
-module _ (s : Shape) (K : ℕ) (l m : List Float) (o f e : ℕ) (ho : o ≡ (2 * K + 4) * s .p) (hf : f ≡ o + s .p) (he : e ≡ f + s .n)
-    (hl : length l ≡ (2 * K + 5) * s .p + s .n) (hm : length m ≡ length l) where
+module _ (s : Shape) (K : ℕ) (l m : List Float) (o f e : ℕ) (ho : o ≡ (2 * K + 2) * s .p) (hf : f ≡ o + s .p) (he : e ≡ f + s .n)
+    (hl : length l ≡ (2 * K + 3) * s .p + s .n) (hm : length m ≡ length l) where
   pub old-long : length (take (f - o) (drop o m)) ≡ s .p
   old-long = let r = room-split K (s .p) (s .n) in part-long m o f (s .p) hf (omega arith)
 
@@ -78,9 +81,9 @@ module _ (s : Shape) (K : ℕ) (l m : List Float) (o f e : ℕ) (ho : o ≡ (2 *
   new-long = let r = room-split K (s .p) (s .n) in part-long m f e (s .n) he (omega arith)
 
 -- ---- what is found in a scratch with both parts put
-module _ (s : Shape) (K : ℕ) (l w fit : List Float) (hw : length w ≡ s .p) (hf : length fit ≡ s .n) (hl : length l ≡ (2 * K + 5) * s .p + s .n) where
+module _ (s : Shape) (K : ℕ) (l w fit : List Float) (hw : length w ≡ s .p) (hf : length fit ≡ s .n) (hl : length l ≡ (2 * K + 3) * s .p + s .n) where
   o : ℕ
-  o = (2 * K + 4) * s .p
+  o = (2 * K + 2) * s .p
 
   room : length l ≡ o + s .p + s .n
   unfolding o
@@ -89,7 +92,7 @@ module _ (s : Shape) (K : ℕ) (l w fit : List Float) (hw : length w ≡ s .p) (
   first : length (put l o w) ≡ length l
   first = let r = room in length-put l o w (omega arith)
 
-  pub both-old : (m : List Float) (a b : ℕ) → m ≡ put (put l (oldAt s K) w) (fitAt s K) fit → a ≡ (2 * K + 4) * s .p → b ≡ a + s .p
+  pub both-old : (m : List Float) (a b : ℕ) → m ≡ put (put l (oldAt s K) w) (fitAt s K) fit → a ≡ (2 * K + 2) * s .p → b ≡ a + s .p
       → take (b - a) (drop a m) ≡ w
   unfolding oldAt fitAt o
   both-old m a b e ha hb =
@@ -98,7 +101,7 @@ module _ (s : Shape) (K : ℕ) (l w fit : List Float) (hw : length w ≡ s .p) (
       let q : b - a ≡ s .p = omega arith in
       rw (q, ha, e) (part-before (put l o w) (o + s .p) o (s .p) fit (omega arith) (omega arith) ∙ part-at l o (s .p) w (omega arith) hw)
 
-  pub both-fit : (m : List Float) (a b c : ℕ) → m ≡ put (put l (oldAt s K) w) (fitAt s K) fit → a ≡ (2 * K + 4) * s .p → b ≡ a + s .p → c ≡ b + s .n
+  pub both-fit : (m : List Float) (a b c : ℕ) → m ≡ put (put l (oldAt s K) w) (fitAt s K) fit → a ≡ (2 * K + 2) * s .p → b ≡ a + s .p → c ≡ b + s .n
       → take (c - b) (drop b m) ≡ fit
   unfolding oldAt fitAt o
   both-fit m a b c e ha hb hc =
@@ -115,14 +118,6 @@ module _ (s : Shape) (K : ℕ) (l w fit : List Float) (hw : length w ≡ s .p) (
       let k = first in
       rw e (kept-beside s K (put l o w) fit (o + s .p) (omega arith) (omega arith) ∙ kept-beside s K l w o (omega arith) (omega arith))
 
-  pub both-first : (m : List Float) → m ≡ put (put l (oldAt s K) w) (fitAt s K) fit → take (3 * s .p) m ≡ take (3 * s .p) l
-  unfolding oldAt fitAt o
-  both-first m e =
-      let r = room in
-      let k = first in
-      let q = old-behind K (s .p) in
-      rw e (part-before (put l o w) (o + s .p) 0 (3 * s .p) fit (omega arith) (omega arith) ∙ part-before l o 0 (3 * s .p) w (omega arith) (omega arith))
-
 -- ---- what is kept, lent and come back with a row written
 pub row-small : (e K p : ℕ) → K ≤ 10 → p ≤ 8192 → e % (K + 1) * p ≤ 90112
 row-small e K p h k =
@@ -132,8 +127,8 @@ row-small e K p h k =
     lt-le : {a b : ℕ} → a < b → a ≤ b
     lt-le h = omega arith
 
-module _ (s : Shape) (K : ℕ) (l : List Float) (a b e : ℕ) (ha : a ≡ 3 * s .p) (hb : b ≡ a + suc K * s .p)
-    (hl : length l ≡ (2 * K + 5) * s .p + s .n) where
+module _ (s : Shape) (K : ℕ) (l : List Float) (a b e : ℕ) (ha : a ≡ s .p) (hb : b ≡ a + suc K * s .p)
+    (hl : length l ≡ (2 * K + 3) * s .p + s .n) where
   inside : b ≤ length l
   inside = let r = room-split K (s .p) (s .n) in let q = old-behind K (s .p) in omega arith
 
@@ -164,7 +159,3 @@ module _ (s : Shape) (K : ℕ) (l : List Float) (a b e : ℕ) (ha : a ≡ 3 * s 
 
         rest : b ≤ length l → b - a ≤ length (drop a l)
         rest h = let d = length-drop a l in omega arith
-
-    -- the places before it
-    pub row-first : (m : ℕ) → m ≤ 3 * s .p → take m (putMid a (b - a) l ks) ≡ take m l
-    row-first m h = let i = inside in ap (take m) back ∙ part-before l a 0 m ks (omega arith) (omega arith)

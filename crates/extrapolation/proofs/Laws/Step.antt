@@ -1,12 +1,11 @@
 -- What the step's functions leave behind, each from what its calls promise. Assumes nothing.
 use mathlib.Core.Path.{_≡_, sym, ap, _∙_}
 use Prim.Native.Nat.{ℕ, suc, _+_, _-_, _*_, _%_, _≤_}
-use native.Mathlib.Nat.{le-of-eq, le-trans, le-refl}
+use native.Mathlib.Nat.{le-of-eq, le-trans}
 use native.Mathlib.Omega.{arith}
 use borrow.Rule.Slice.PartMut.{putMid}
 use mathlib.Core.List.{List}
 use lib.ListN.{length, take, drop}
-use lib.Seq.{take-take}
 use lib.Ieee.{Float}
 use Rattle.doubles.specs.Buffer.{put}
 use Rattle.doubles.proofs.Laws.Buffer.{length-put}
@@ -16,19 +15,19 @@ use Rattle.designs.specs.Design.{design, extrapolated}
 use Rattle.designs.specs.Given.{Given, designOf}
 use Rattle.definition.specs.Epoch.{Point}
 use Rattle.definition.specs.Extrapolation.{Tried, candidate, coefficients, objectiveOf, extrapolate, tried, gathered, keptNow}
-use Rattle.extrapolation.specs.Inner.Places.{Sized, StepReady, keptIn, oldAt, fitAt, taskIn, pointWith, chosenBy, triedFrom}
+use Rattle.extrapolation.specs.Inner.Places.{Sized, StepReady, keptIn, oldAt, fitAt, taskWith, pointWith, chosenBy, triedFrom}
 use Rattle.extrapolation.proofs.Laws.Scratch.{room-split, old-put, kept-then, both-put, old-long, new-long}
-use Rattle.extrapolation.proofs.Laws.Scratch.{both-old, both-fit, both-kept, both-first, row-kept, row-first}
-use Rattle.extrapolation.proofs.Laws.Tries.{tried-from, due-here}
+use Rattle.extrapolation.proofs.Laws.Scratch.{both-old, both-fit, both-kept, row-kept}
+use Rattle.extrapolation.proofs.Laws.Tries.{tried-from, is-due}
 
 -- where the parts are: what `lay_out` promises
 abbrev pub Laid : Shape → ℕ → ℕ → ℕ → ℕ → ℕ → ℕ → Type 0
-Laid s K a b o f e = (a ≡ 3 * s .p) × (b ≡ a + suc K * s .p) × (o ≡ (2 * K + 4) * s .p) × (f ≡ o + s .p) × (e ≡ f + s .n)
+Laid s K a b o f e = (a ≡ s .p) × (b ≡ a + suc K * s .p) × (o ≡ (2 * K + 2) * s .p) × (f ≡ o + s .p) × (e ≡ f + s .n)
 
 module _ (s : Shape) (K : ℕ) where
-  old-length : (l w : List Float) → length w ≡ s .p → length l ≡ (2 * K + 5) * s .p + s .n → length (put l (oldAt s K) w) ≡ length l
+  old-length : (l w : List Float) → length w ≡ s .p → length l ≡ (2 * K + 3) * s .p + s .n → length (put l (oldAt s K) w) ≡ length l
   unfolding oldAt
-  old-length l w h k = let r = room-split K (s .p) (s .n) in length-put l ((2 * K + 4) * s .p) w (omega arith)
+  old-length l w h k = let r = room-split K (s .p) (s .n) in length-put l ((2 * K + 2) * s .p) w (omega arith)
 
 -- `make_candidate`
 pub made : (s : Shape) (starts rows : List ℕ) (values : List Float) (K : ℕ) (c : List Float) (ws : List ℕ) (w l xs v ys : List Float) (a b o f e : ℕ)
@@ -66,45 +65,28 @@ pub chosen-here : (g : Given) (penalty : Penalty) (K : ℕ) (ws : List ℕ)
     × (length (extrapolated (designOf g) ws v) ≡ g .shape .n)
     → before ≡ objectiveOf penalty (g .targets) w fit → c ≡ coefficients K z
     → r ≡ chosenBy penalty (g .targets) before (pointWith v (take (e - f) (drop f m))) (pointWith (take (f - o) (drop o m)) fit)
-    → (r ≡ triedFrom (taskIn g penalty l) (g .targets) K ws (keptIn (g .shape) K l) z (pointWith w fit))
+    → ((q : List Float) → r ≡ triedFrom (taskWith g penalty q) (g .targets) K ws (keptIn (g .shape) K l) z (pointWith w fit))
     × (keptIn (g .shape) K m ≡ keptIn (g .shape) K l)
-    × (take (3 * g .shape .p) m ≡ take (3 * g .shape .p) l)
 chosen-here g penalty K ws w fit l z c v m before a b o f e r R at q eb ec er =
     let x = extrapolated (designOf g) ws v in
     let new : take (e - f) (drop f m) ≡ x = both-fit (g .shape) K l w x (R .sized .weights) (q .2) (R .sized .room) m o f e (q .1) (at .2) (at .3) (at .4) in
-    let old : take (f - o) (drop o m) ≡ w = both-old (g .shape) K l w x (R .sized .weights) (q .2) (R .sized .room) m o f (q .1) (at .2) (at .3) in
-    let choice = tried-from (taskIn g penalty l) (g .targets) K ws (keptIn (g .shape) K l) z c w fit v _ _ before r in (
-      choice er eb new old (q .0) ec,
+    let old : take (f - o) (drop o m) ≡ w = both-old (g .shape) K l w x (R .sized .weights) (q .2) (R .sized .room) m o f (q .1) (at .2) (at .3) in (
+      λ prepared. tried-from (taskWith g penalty prepared) (g .targets) K ws (keptIn (g .shape) K l) z c w fit v _ _ before r er eb new old (q .0) ec,
       both-kept (g .shape) K l w x (R .sized .weights) (q .2) (R .sized .room) m (q .1),
-      both-first (g .shape) K l w x (R .sized .weights) (q .2) (R .sized .room) m (q .1),
     )
 
 -- `anderson_accel`: the row is written
 pub row-left : (g : Given) (K j : ℕ) (ws : List ℕ) (w fit l ks : List Float) (a b o f e : ℕ)
     → StepReady g K ws w fit l → Laid (g .shape) K a b o f e → length ks ≡ length (take (b - a) (drop a l))
     → ks ≡ put (take (b - a) (drop a l)) (j % (K + 1) * g .shape .p) (gathered ws w)
-    → (keptIn (g .shape) K (putMid a (b - a) l ks) ≡ keptNow K (g .shape .p) j ws w (keptIn (g .shape) K l))
-    × (take (3 * g .shape .p) (putMid a (b - a) l ks) ≡ take (3 * g .shape .p) l)
-row-left g K j ws w fit l ks a b o f e R at h q = (
-  row-kept (g .shape) K l a b j (at .0) (at .1) (R .sized .room) ks h ws w q,
-  row-first (g .shape) K l a b j (at .0) (at .1) (R .sized .room) ks h (3 * g .shape .p) (le-refl (3 * g .shape .p)),
-)
+    → keptIn (g .shape) K (putMid a (b - a) l ks) ≡ keptNow K (g .shape .p) j ws w (keptIn (g .shape) K l)
+row-left g K j ws w fit l ks a b o f e R at h q = row-kept (g .shape) K l a b j (at .0) (at .1) (R .sized .room) ks h ws w q
 
--- and the step is not due
-pub and-row : {A B C : Type 0} → A → B × C → A × B × C
-and-row a row = (a, row .0, row .1)
-
--- or it is tried
-pub step-tried : (g : Given) (penalty : Penalty) (K j : ℕ) (ws : List ℕ)
-    (l m n kept : List Float) (x : Point) (r : Tried)
-    → (keptIn (g .shape) K m ≡ kept) × (take (3 * g .shape .p) m ≡ take (3 * g .shape .p) l) → j % (K + 1) ≡ K → K ≤ length ws
-    → (r ≡ extrapolate (taskIn g penalty m) (g .targets) K ws (keptIn (g .shape) K m) x)
+-- and the step is tried
+pub step-tried : (g : Given) (penalty : Penalty) (K j : ℕ) (ws : List ℕ) (m n kept : List Float) (x : Point) (r : Tried)
+    → keptIn (g .shape) K m ≡ kept → j % (K + 1) ≡ K → K ≤ length ws
+    → ((q : List Float) → r ≡ extrapolate (taskWith g penalty q) (g .targets) K ws (keptIn (g .shape) K m) x)
     × (keptIn (g .shape) K n ≡ keptIn (g .shape) K m)
-    × (take (3 * g .shape .p) n ≡ take (3 * g .shape .p) m)
-    → (r ≡ tried (taskIn g penalty l) (g .targets) K j ws kept x) × (keptIn (g .shape) K n ≡ kept) × (take (3 * g .shape .p) n ≡ take (3 * g .shape .p) l)
-step-tried g penalty K j ws l m n kept x r row h k t =
-    let p = g .shape .p in
-    let h2 : p + p ≤ 3 * p = omega arith in
-    let prepared : take (p + p) m ≡ take (p + p) l =
-    sym (take-take (p + p) (3 * p) m h2) ∙ ap (take (p + p)) (row .1) ∙ take-take (p + p) (3 * p) l h2 in
-    (due-here g penalty K j ws l m kept x prepared (row .0) h k r (t .0), t .1 ∙ row .0, t .2 ∙ row .1)
+    → ((q : List Float) → r ≡ tried (taskWith g penalty q) (g .targets) K j ws kept x) × (keptIn (g .shape) K n ≡ kept)
+step-tried g penalty K j ws m n kept x r row h k t =
+    (λ q. is-due (taskWith g penalty q) (g .targets) K j ws kept x h k r (t .0 q ∙ rw row), t .1 ∙ row)

@@ -46,8 +46,8 @@ row-done f K i row h a b e =
     ∙ behind (λ j k m. getD-replicate 11 j #0 nan m ∙ rw (le-ltb j K (omega arith), ne-eqb j K (λ x. omega (arith, x))))
 
 -- ---- places are small
-pub places-small : (K p : ℕ) → K ≤ 10 → p ≤ 8192 → (2 * K + 4) * p ≤ 196608
-places-small K p h k = let a : 2 * K + 4 ≤ 24 = omega arith in le-trans (mul-le-mul a k) (le-of-eq refl)
+pub places-small : (K p : ℕ) → K ≤ 10 → p ≤ 8192 → (2 * K + 2) * p ≤ 180224
+places-small K p h k = let a : 2 * K + 2 ≤ 22 = omega arith in le-trans (mul-le-mul a k) (le-of-eq refl)
 
 pub rows-small : (K p : ℕ) → K ≤ 10 → p ≤ 8192 → (K + 1) * p ≤ 90112
 rows-small K p h k = let a : K + 1 ≤ 11 = omega arith in le-trans (mul-le-mul a k) (le-of-eq refl)

@@ -4,21 +4,20 @@ use mathlib.Core.Bool.{Bool, true, false}
 use Prim.Native.Nat.{ℕ, suc, _+_, _%_, _≤_, _<_}
 use native.Mathlib.Numerals.{add-one}
 use mathlib.Core.List.{List}
-use lib.ListN.{length, getD, set, take}
+use lib.ListN.{length, getD, set}
 use lib.Ieee.{Float}
 use borrow.Author.Tests.{eq-eqb, ne-eqb, le-leb, lt-leb}
 use Rattle.doubles.specs.Num.{#0, _and_}
 use Rattle.doubles.specs.Steps.{steps, tab}
 use Rattle.doubles.proofs.Laws.Steps.{steps-all}
 use Rattle.elimination.specs.Elimination.{Matrix, eliminated, regular, readOff}
-use Rattle.penalties.specs.declared.separable.Penalty.{Penalty}
 use Rattle.designs.specs.Given.{Given}
 use Rattle.designs.specs.Design.{extrapolated}
 use Rattle.definition.specs.Epoch.{Task, Point}
 use Rattle.definition.specs.Extrapolation as ext
 use Rattle.definition.specs.Extrapolation.{Tried, keeps, combined, candidate, coefficients, system, objectiveOf, better, chosen, candidateOf}
 use Rattle.definition.specs.Extrapolation.{extrapolate, fromSystem, due, tried}
-use Rattle.extrapolation.specs.Inner.Places.{pointWith, chosenBy, triedFrom, taskIn, keptIn, StepReady}
+use Rattle.extrapolation.specs.Inner.Places.{pointWith, chosenBy, triedFrom, StepReady}
 
 -- all places of the working set written, over zeros
 pub candidate-done : (K p : ℕ) (ws : List ℕ) (kept c u w : List Float) (n i : ℕ) → u ≡ tab (λ j. #0) n → n ≡ p
@@ -61,18 +60,11 @@ module _ (T : Task) (y : List Float) (K e : ℕ) (ws : List ℕ) (kept : List Fl
   unfolding tried due _and_
   too-few h l = rw (eq-eqb (e % suc K) K (rw add-one at h), lt-leb K (length ws) l)
 
-  is-due : e % (K + 1) ≡ K → K ≤ length ws → (r : Tried) → r ≡ extrapolate T y K ws kept s → r ≡ tried T y K e ws kept s
+  pub is-due : e % (K + 1) ≡ K → K ≤ length ws → (r : Tried) → r ≡ extrapolate T y K ws kept s → r ≡ tried T y K e ws kept s
   unfolding tried due _and_
   is-due h l r q = rw (eq-eqb (e % suc K) K (rw add-one at h), le-leb K (length ws) l) q
 
--- from a scratch in which a row was written
-pub due-here : (g : Given) (penalty : Penalty) (K e : ℕ) (ws : List ℕ) (l m kept : List Float) (x : Point)
-    → take (g .shape .p + g .shape .p) m ≡ take (g .shape .p + g .shape .p) l → keptIn (g .shape) K m ≡ kept → e % (K + 1) ≡ K → K ≤ length ws
-    → (r : Tried) → r ≡ extrapolate (taskIn g penalty m) (g .targets) K ws (keptIn (g .shape) K m) x
-    → r ≡ tried (taskIn g penalty l) (g .targets) K e ws kept x
-due-here g penalty K e ws l m kept x hp hk h k r q = is-due (taskIn g penalty l) (g .targets) K e ws kept x h k r (q ∙ rw (hp, hk))
-
--- and it is as ready
+-- a scratch in which a row was written is as ready
 pub ready-again : {g : Given} {K : ℕ} {ws : List ℕ} {w fit l : List Float} (m : List Float)
     → StepReady g K ws w fit l → length m ≡ length l → StepReady g K ws w fit m
 ready-again m r h = record {

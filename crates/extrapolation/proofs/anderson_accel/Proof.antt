@@ -2,7 +2,6 @@
 use mathlib.Core.Path.{_≡_}
 use mathlib.Core.List.{List}
 use lib.Ieee.{Float}
-use lib.ListN.{take}
 use denote.Ref.{now}
 use native.Mathlib.Omega.{arith}
 use Rattle.definition.specs.Extrapolation.{keptNow}
@@ -10,7 +9,7 @@ use Rattle.extrapolation.specs.Inner.Places.{keptIn}
 use Rattle.extrapolation.proofs.Laws.Scratch.{row-small, row-room}
 use Rattle.extrapolation.proofs.Laws.Tries.{not-last, too-few, ready-again}
 use Prim.Native.Nat.{_-_, _*_}
-use Rattle.extrapolation.proofs.Laws.Step.{row-left, and-row, step-tried}
+use Rattle.extrapolation.proofs.Laws.Step.{row-left, step-tried}
 use native.Mathlib.Nat.{le-trans}
 use borrow.Rule.Slice.PartMut.{putMid, same-len-mid}
 use borrow.Author.Needs.{needs}
@@ -30,11 +29,10 @@ scratch c =
     let parts = laid-out c .lay-out .result in
     putMid (parts .kept) (parts .until - parts .kept) (now (entry (laid-out c) .args .scratch)) (c .keep .last .1 .1 .1 .0)
 
--- its rows are those of the definition, and what lies before them is as it was
+-- its rows are those of the definition
 row : (c : tie.After-keep) → let a = entry (laid-out c) .args in
-    (keptIn (a .shape) (a .depth) (scratch c)
-    ≡ keptNow (a .depth) (a .shape .p) (a .e) (now (a .ws)) (now (a .w)) (keptIn (a .shape) (a .depth) (now (a .scratch))))
-    × (take (3 * a .shape .p) (scratch c) ≡ take (3 * a .shape .p) (now (a .scratch)))
+    keptIn (a .shape) (a .depth) (scratch c)
+    ≡ keptNow (a .depth) (a .shape .p) (a .e) (now (a .ws)) (now (a .w)) (keptIn (a .shape) (a .depth) (now (a .scratch)))
 row c =
     let laid = laid-out c in
     row-left _ _ _ _ _ _ _ _ _ _ _ _ _ (entry laid .pre) (laid .lay-out .ensures) (c .keep .kept .1 .1 .1 .0) (c .keep .ensures)
@@ -84,7 +82,7 @@ same-length-2 : tie.Need-same-length-2
 same-length-2 c = search needs
 
 returns : tie.Need-returns
-returns c = and-row (not-last _ _ _ _ _ _ _ (c .if1 .left)) (row (c .before .before .before))
+returns c = (λ q. not-last _ _ _ _ _ _ _ (c .if1 .left), row (c .before .before .before))
 
 same-length-3 : tie.Need-same-length-3
 same-length-3 c = search needs
@@ -93,7 +91,7 @@ same-length-4 : tie.Need-same-length-4
 same-length-4 c = search needs
 
 returns-2 : tie.Need-returns-2
-returns-2 c = and-row (too-few _ _ _ _ _ _ _ (c .before .if1 .taken) (c .if2 .left)) (row (c .before .before .before .before))
+returns-2 c = (λ q. too-few _ _ _ _ _ _ _ (c .before .if1 .taken) (c .if2 .left), row (c .before .before .before .before))
 
 extrapolate-requires : tie.Need-extrapolate-requires
 extrapolate-requires c κs =
@@ -119,7 +117,7 @@ returns-3 c =
     let tried = c .before .before .before .before .before .before in
     let places = tried .before .before .before .before in
     let last = places .before in
-    step-tried _ _ _ _ _ _ _ _ _ _ _ (row (last .before .before .before)) (last .if1 .taken) (places .if2 .taken) (tried .extrapolate .ensures)
+    step-tried _ _ _ _ _ _ _ _ _ _ (row (last .before .before .before)) (last .if1 .taken) (places .if2 .taken) (tried .extrapolate .ensures)
 
 pub anderson-accel-spec : {M : Type 1} → statement M
 anderson-accel-spec =

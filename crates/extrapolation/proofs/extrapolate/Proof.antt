@@ -54,8 +54,10 @@ returns : tie.Need-returns
 returns c =
     let eliminated = c .before .before in
     let built = eliminated .before in
-    let from = from-singular _ _ _ _ _ _ _ _ _ _ (kept (laid-out built)) (built .system .ensures) (eliminated .eliminate .ensures) in
-    (from (c .before .is-regular .ensures) (c .if1 .left), refl, refl)
+    let rows = kept (laid-out built) in (
+      λ q. from-singular _ _ _ _ _ _ _ _ _ _ rows (built .system .ensures) (eliminated .eliminate .ensures) (c .before .is-regular .ensures) (c .if1 .left),
+      refl,
+    )
 
 read-off-requires : tie.Need-read-off-requires
 read-off-requires c κs = search needs
@@ -80,9 +82,11 @@ returns-2 c =
     let eliminated = regular .before .before in
     let built = eliminated .before in
     let tried = made .try-candidate .ensures in
-    let from = from-regular _ _ _ _ _ _ _ _ _ _ (kept (laid-out built)) (built .system .ensures) (eliminated .eliminate .ensures) in
-    let e = from (regular .before .is-regular .ensures) (regular .if1 .taken) _ (solved .read-off .ensures) _ (tried .0) in
-    (e, tried .1, tried .2)
+    let rows = kept (laid-out built) in (
+      λ q. from-regular _ _ _ _ _ _ _ _ _ _ rows (built .system .ensures) (eliminated .eliminate .ensures)
+          (regular .before .is-regular .ensures) (regular .if1 .taken) _ (solved .read-off .ensures) _ (tried .0 q),
+      tried .1,
+    )
 
 pub extrapolate-spec : {M : Type 1} → statement M
 extrapolate-spec =

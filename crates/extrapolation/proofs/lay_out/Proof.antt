@@ -7,9 +7,6 @@ use borrow.Author.Needs.{needs}
 use Rattle.extrapolation.proofs.lay_out.Statement.{statement}
 use Rattle.extrapolation.proofs.lay_out.Tie as tie
 
-mul-kept : tie.Need-mul-kept
-mul-kept c = search needs
-
 mul-old : tie.Need-mul-old
 mul-old c = search needs
 
@@ -17,29 +14,29 @@ add-old : tie.Need-add-old
 add-old c = search needs
 
 mul-old-2 : tie.Need-mul-old-2
-mul-old-2 c = let h = places-small _ _ (c .before .before .before .pre .0) (c .before .before .before .pre .1) in omega arith
+mul-old-2 c = let h = places-small _ _ (c .before .before .pre .0) (c .before .before .pre .1) in omega arith
 
 add-fit : tie.Need-add-fit
-add-fit c = let h = places-small _ _ (c .before .before .before .before .pre .0) (c .before .before .before .before .pre .1) in omega arith
+add-fit c = let h = places-small _ _ (c .before .before .before .pre .0) (c .before .before .before .pre .1) in omega arith
 
 add-t6 : tie.Need-add-t6
 add-t6 c = search needs
 
 mul-t7 : tie.Need-mul-t7
 mul-t7 c =
-    let start = c .before .before .before .before .before .before in
+    let start = c .before .before .before .before .before in
     let h = rows-small _ _ (start .pre .0) (start .pre .1) in
     omega arith
 
 add-t8 : tie.Need-add-t8
 add-t8 c =
-    let start = c .before .before .before .before .before .before in
+    let start = c .before .before .before .before .before in
     let h = rows-small _ _ (start .pre .0) (start .pre .1) in
     omega arith
 
 add-t9 : tie.Need-add-t9
 add-t9 c =
-    let start = c .before .before .before .before .before .before in
+    let start = c .before .before .before .before .before in
     let h = places-small _ _ (start .pre .0) (start .pre .1) in
     omega arith
 
@@ -49,4 +46,4 @@ returns c = (refl, rw add-one, refl, refl, refl)
 pub lay-out-spec : {M : Type 1} → statement M
 lay-out-spec =
     tie.close
-    (tie.spec mul-kept mul-old add-old mul-old-2 add-fit add-t6 mul-t7 add-t8 add-t9 returns)
+    (tie.spec mul-old add-old mul-old-2 add-fit add-t6 mul-t7 add-t8 add-t9 returns)

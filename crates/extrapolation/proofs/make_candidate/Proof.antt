@@ -20,7 +20,7 @@ abbrev put-by : tie.After-write-candidate → tie.After-copy
 put-by c = c .before .before .before .before .before .before
 
 -- the weights put by lie low enough for their bytes to be counted
-small : (c : tie.After-copy) → let a = entry (laid-out c) .args in (2 * a .depth + 4) * a .shape .p ≤ 196608
+small : (c : tie.After-copy) → let a = entry (laid-out c) .args in (2 * a .depth + 2) * a .shape .p ≤ 180224
 small c = let sized = entry (laid-out c) .pre in places-small _ _ (sized .shallow) (sized .features)
 
 -- ---- the needs

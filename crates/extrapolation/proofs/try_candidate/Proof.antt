@@ -15,7 +15,7 @@ abbrev laid-out : tie.After-make-candidate → tie.After-lay-out
 laid-out c = c .before .before .before .before .before .before .before
 
 -- the weights put by lie low enough for their bytes to be counted
-small : (c : tie.After-make-candidate) → let a = entry (laid-out c) .args in (2 * a .depth + 4) * a .shape .p ≤ 196608
+small : (c : tie.After-make-candidate) → let a = entry (laid-out c) .args in (2 * a .depth + 2) * a .shape .p ≤ 180224
 small c = let sized = entry (laid-out c) .pre .sized in places-small _ _ (sized .shallow) (sized .features)
 
 -- ---- the needs

@@ -12,13 +12,13 @@ use Rattle.designs.specs.declared.Shape.{Shape}
 use Rattle.definition.specs.Epoch.{Task, task, Point}
 use Rattle.definition.specs.Extrapolation.{Tried, keptNow, keeps, objectiveOf, allFinite, chosen, candidateOf}
 
--- the prepared numbers are the scratch's first 2p places
-abbrev pub taskIn : Given → Penalty → List Float → Task
-taskIn g penalty scratch = task (g .shape) (g .starts) (g .rows) (g .values) penalty (take (g .shape .p + g .shape .p) scratch)
+-- the extrapolation never looks at the prepared numbers: what it promises holds for any
+abbrev pub taskWith : Given → Penalty → List Float → Task
+taskWith g penalty prepared = task (g .shape) (g .starts) (g .rows) (g .values) penalty prepared
 
--- what is kept: K+1 rows of p places behind constants, X'y and violations
+-- what is kept: K+1 rows of p places behind the violations
 unfoldable pub keptIn : Shape → ℕ → List Float → List Float
-keptIn s K scratch = take (suc K * s .p) (drop (3 * s .p) scratch)
+keptIn s K scratch = take (suc K * s .p) (drop (s .p) scratch)
 
 abbrev pub keptThen : Shape → ℕ → ℕ → List ℕ → List Float → List Float → List Float
 keptThen s K e ws w scratch = keptNow K (s .p) e ws w (keptIn s K scratch)
@@ -31,10 +31,10 @@ triedOf r w fit = record { point = pointWith w fit; taken = r }
 
 -- behind K rows that stay zero: the weights as they were, and the candidate's fit
 unfoldable pub oldAt : Shape → ℕ → ℕ
-oldAt s K = (2 * K + 4) * s .p
+oldAt s K = (2 * K + 2) * s .p
 
 unfoldable pub fitAt : Shape → ℕ → ℕ
-fitAt s K = (2 * K + 4) * s .p + s .p
+fitAt s K = (2 * K + 2) * s .p + s .p
 
 -- the choice between two points, of which the old one's objective is known
 unfoldable pub chosenBy : Penalty → List Float → Float → Point → Point → Tried
@@ -55,7 +55,7 @@ pub record Sized (s : Shape) (starts rows : List ℕ) (values : List Float) (K :
   pub deep : 0 < K
   pub shallow : K ≤ 10
   pub weights : length w ≡ s .p
-  pub room : length scratch ≡ (2 * K + 5) * s .p + s .n
+  pub room : length scratch ≡ (2 * K + 3) * s .p + s .n
   pub few : length ws ≤ s .p
   pub below : (k : ℕ) → k < length ws → getD ws k 0 < s .p
 

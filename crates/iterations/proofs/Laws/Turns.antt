@@ -1,19 +1,18 @@
 -- One turn of the outer loop, from what its parts answer to its definition. Assumes nothing.
 use mathlib.Core.Path.{_≡_, refl, sym, ap, _∙_}
 use mathlib.Core.Bool.{Bool, true, false}
-use Prim.Native.Nat.{ℕ, suc, _+_, _*_, _-_, _≤_, _<_}
+use Prim.Native.Nat.{ℕ, _+_, _-_, _≤_, _<_}
 use native.Mathlib.Nat.{le-of-eq, le-trans}
 use native.Mathlib.Omega.{arith}
 use mathlib.Core.List.{List, [], _∷_, _++_}
 use lib.Dec.{eqb, ltb}
-use lib.ListN.{length, take, drop}
-use lib.Seq.{take-at}
+use lib.ListN.{length, take, drop, length-append, length-drop}
+use lib.Seq.{take-at, drop-at}
 use lib.Ieee.{Float, nan, le}
 use borrow.Author.Tests.{ltb-false, eq-eqb, ne-eqb}
 use Rattle.doubles.specs.Num.{pick, finite, _or_}
 use Rattle.doubles.specs.Steps.{Stage, going, stopped, bad, andThen, tab}
-use Rattle.doubles.specs.Buffer.{put}
-use Rattle.doubles.proofs.Laws.Steps.{length-tab, getD-tab, all-each, picked, not-picked}
+use Rattle.doubles.proofs.Laws.Steps.{getD-tab, all-each, picked, not-picked}
 use Rattle.doubles.proofs.Laws.Choice.{and-both, smaller-most}
 use Rattle.designs.specs.Given.{Given}
 use Rattle.designs.specs.declared.Shape.{Shape}
@@ -22,7 +21,7 @@ use Rattle.definition.specs.Epoch.{Task, gradientOf, violationOf, known, allKno
 use Rattle.definition.specs.Run.{State, epochs, chosenSet, iteration, turn}
 use Rattle.definition.specs.Call.{concluded}
 use Rattle.definition.specs.declared.Settings.{Settings}
-use Rattle.extrapolation.specs.Inner.Places.{taskIn, keptIn, pointWith}
+use Rattle.extrapolation.specs.Inner.Places.{taskWith, keptIn, pointWith}
 use Rattle.selection.specs.Inner.Heap.{Numbers}
 use Rattle.worksets.proofs.Laws.Sets.{size-most, length-workingSet, workingSet-each}
 use Rattle.visits.specs.Inner.Reading.{Measured, measured}
@@ -35,7 +34,6 @@ use Rattle.epochs.specs.declared.InnerStep.the-variants as Inner'
 use Rattle.iterations.specs.declared.OuterStep.{OuterStep}
 use Rattle.iterations.specs.declared.OuterStep.the-variants as Outer'
 use Rattle.iterations.specs.declared.RunEnd.the-variants as RunEnd
-use Rattle.doubles.proofs.Laws.Parts.{part-at, part-behind}
 
 -- ---- the working set
 pub start-most : (a n m k : ℕ) → k ≡ smaller a n → m ≡ n → k ≤ m
@@ -58,9 +56,6 @@ module _ (start : ℕ) (v w : List Float) (h : start ≤ length w) (many : ℕ) 
   }
 
 -- it is the one of the definition
-pub part-violations : (s : Shape) (l : List Float) → take (s .p + s .p + s .p - (s .p + s .p)) (drop (s .p + s .p) l) ≡ violationsIn s l
-part-violations s l = let q : s .p + s .p + s .p - (s .p + s .p) ≡ s .p = omega arith in rw q
-
 pub set-chosen : (T : Task) (S : Settings) (w fit v : List Float) (start : ℕ) (ws : List ℕ) → start ≡ smaller (S .start) (T .p) → v ≡ violations T w fit
     → ws ≡ workingSet start v w → ws ≡ chosenSet T S (pointWith w fit)
 unfolding chosenSet
@@ -99,24 +94,20 @@ module _ (T : Task) (y : List Float) (S : Settings) (v : Float) (c : Totals) (w 
   pub shown-bad : r ≡ Inner'.Bad → bad ≡ iteration T y S v (stateOf c w fit kept sets)
   shown-bad e = rw (iterated, e)
 
--- ---- the check of all features: what it wrote, and what it left
-module _ (T : Task) (s : Shape) (ep : T .p ≡ s .p) (w fit l : List Float) (room : s .p + s .p + s .p ≤ length l) where
-  length-violations : length (violations T w fit) ≡ s .p
-  unfolding violations
-  length-violations = length-tab _ (T .p) ∙ ep
+-- ---- the check of all features writes the scratch's first p places, in which vs came back
+module _ (s : Shape) (l vs : List Float) (long : length vs ≡ s .p) where
+  pub violations-read : violationsIn s (vs ++ drop (s .p) l) ≡ vs
+  violations-read = take-at vs (drop (s .p) l) (s .p) long
 
-  module _ (m : List Float) (e : m ≡ put l (T .p + T .p) (violations T w fit)) where
-    there : m ≡ put l (s .p + s .p) (violations T w fit)
-    there = rw (← ep) e
+  pub kept-measured : (S : Settings) → keptHere s S (vs ++ drop (s .p) l) ≡ keptHere s S l
+  unfolding keptHere keptIn
+  kept-measured S = rw (drop-at vs (drop (s .p) l) (s .p) long)
 
-    pub violations-read : violationsIn s m ≡ violations T w fit
-    violations-read = rw there (part-at l (s .p + s .p) (s .p) (violations T w fit) (omega arith) length-violations)
-
-    pub kept-measured : (S : Settings) → keptHere s S m ≡ keptHere s S l
-    unfolding keptHere keptIn
-    kept-measured S =
-        let h : s .p + s .p + length (violations T w fit) ≤ 3 * s .p = let q = length-violations in omega arith in
-        rw (there, part-behind l (s .p + s .p) (3 * s .p) (suc (S .depth) * s .p) (violations T w fit) h (omega arith))
+  pub long-as-before : s .p ≤ length l → length (vs ++ drop (s .p) l) ≡ length l
+  long-as-before h =
+      let a = length-append vs (drop (s .p) l) in
+      let b = length-drop (s .p) l in
+      omega arith
 
 -- ---- the turn
 or-true : (b : Bool) → (b or true) ≡ true
@@ -124,35 +115,33 @@ unfolding _or_
 or-true true = refl
 or-true false = refl
 
-module _ (T : Task) (w fit l : List Float) (v : Float) (m : List Float) (e : going (record { largest = v; scratch = m }) ≡ measured T w fit l) where
-  abbrev is : Measured
-  is = record { largest = worst T w fit; scratch = put l (T .p + T .p) (violations T w fit) }
-
-  found : (allKnown T w fit ≡ true) × _≡_ {A = Measured} (record { largest = v; scratch = m }) is
+module _ (T : Task) (w fit : List Float) (v : Float) (vs : List Float) (e : going (record { largest = v; violations = vs }) ≡ measured T w fit) where
+  found : (allKnown T w fit ≡ true) × _≡_ {A = Measured} (record { largest = v; violations = vs })
+      (record { largest = worst T w fit; violations = violations T w fit })
   unfolding measured
   found = picked (allKnown T w fit) _ _ e
 
   pub found-known : allKnown T w fit ≡ true
   found-known = found .0
 
-  pub found-scratch : m ≡ put l (T .p + T .p) (violations T w fit)
-  found-scratch = ap (λ (x : Measured). x .scratch) (found .1)
+  pub found-violations : vs ≡ violations T w fit
+  found-violations = ap (λ (x : Measured). x .violations) (found .1)
 
   found-largest : v ≡ worst T w fit
   found-largest = ap (λ (x : Measured). x .largest) (found .1)
 
-module _ (T : Task) (y : List Float) (S : Settings) (t : ℕ) (c : Totals) (w fit kept : List Float) (l : List Float) (sets : List (List ℕ)) where
-  pub turn-bad : bad ≡ measured T w fit l → bad ≡ turn T y S t (stateOf c w fit kept sets)
+module _ (T : Task) (y : List Float) (S : Settings) (t : ℕ) (c : Totals) (w fit kept : List Float) (sets : List (List ℕ)) where
+  pub turn-bad : bad ≡ measured T w fit → bad ≡ turn T y S t (stateOf c w fit kept sets)
   unfolding turn measured
   turn-bad e = let h = not-picked (allKnown T w fit) _ e in rw h
 
   -- the check ends the run at v, or an iteration follows
-  module _ (v : Float) (m : List Float) (e : going (record { largest = v; scratch = m }) ≡ measured T w fit l) where
+  module _ (v : Float) (vs : List Float) (e : going (record { largest = v; violations = vs }) ≡ measured T w fit) where
     by-last : turn T y S t (stateOf c w fit kept sets)
         ≡ pick (le v (S .tolerance) or eqb t (S .iterations)) (stopped (stateOf (atViolation v c) w fit kept sets))
         (iteration T y S v (stateOf c w fit kept sets))
     unfolding turn
-    by-last = rw (found T w fit l v m e .0, ← found-largest T w fit l v m e)
+    by-last = rw (found T w fit v vs e .0, ← found-largest T w fit v vs e)
 
     pub turn-met : le v (S .tolerance) ≡ true → turn T y S t (stateOf c w fit kept sets) ≡ stopped (stateOf (atViolation v c) w fit kept sets)
     unfolding _or_
@@ -166,31 +155,30 @@ module _ (T : Task) (y : List Float) (S : Settings) (t : ℕ) (c : Totals) (w fi
     unfolding _or_
     turn-iterates h l = rw (h, ne-eqb t (S .iterations) (λ q. omega (arith, q))) at by-last
 
--- what a turn shows, over what the check left of the scratch
-module _ (g : Given) (S : Settings) (t : ℕ) (c : Totals) (w fit l m : List Float) (v : Float) (room : g .shape .p + g .shape .p + g .shape .p ≤ length l)
-    (e : going (record { largest = v; scratch = m }) ≡ measured (taskIn g (S .penalty) l) w fit l) (sets : List (List ℕ)) where
+-- what a turn shows, over what the check left of the scratch l
+module _ (g : Given) (prepared : List Float) (S : Settings) (t : ℕ) (c : Totals) (w fit l vs : List Float) (v : Float) (long : length vs ≡ g .shape .p)
+    (e : going (record { largest = v; violations = vs }) ≡ measured (taskWith g (S .penalty) prepared) w fit) (sets : List (List ℕ)) where
   abbrev T : Task
-  T = taskIn g (S .penalty) l
+  T = taskWith g (S .penalty) prepared
+
+  abbrev left : List Float
+  left = vs ++ drop (g .shape .p) l
 
   abbrev Turn : Stage State
   Turn = turn T (g .targets) S t (stateOf c w fit (keptHere (g .shape) S l) sets)
 
-  kept-checked : keptHere (g .shape) S m ≡ keptHere (g .shape) S l
-  kept-checked = kept-measured T (g .shape) refl w fit l room m (found-scratch T w fit l v m e) S
+  pub turn-stops : le v (S .tolerance) ≡ true → shows (g .shape) S (Outer'.Stopped (atViolation v c)) w fit left Turn
+  turn-stops h = rw (turn-met T (g .targets) S t c w fit (keptHere (g .shape) S l) sets v vs e h, kept-measured (g .shape) l vs long S)
 
-  pub turn-stops : le v (S .tolerance) ≡ true → shows (g .shape) S (Outer'.Stopped (atViolation v c)) w fit m Turn
-  turn-stops h = rw (turn-met T (g .targets) S t c w fit (keptHere (g .shape) S l) l sets v m e h, kept-checked)
-
-  pub last-stops : t ≡ S .iterations → showsEnd (g .shape) S (RunEnd.Done (atViolation v c)) w fit m (concluded Turn)
-  last-stops h = rw (turn-ends T (g .targets) S t c w fit (keptHere (g .shape) S l) l sets v m e h, kept-checked)
+  pub last-stops : t ≡ S .iterations → showsEnd (g .shape) S (RunEnd.Done (atViolation v c)) w fit left (concluded Turn)
+  last-stops h = rw (turn-ends T (g .targets) S t c w fit (keptHere (g .shape) S l) sets v vs e h, kept-measured (g .shape) l vs long S)
 
   -- the iteration that follows is run on what the check left
-  pub turn-goes-on : take (g .shape .p + g .shape .p) m ≡ take (g .shape .p + g .shape .p) l → le v (S .tolerance) ≡ false → t < S .iterations
-      → (r : OuterStep) (w' fit' scratch' : List Float)
-      → shows (g .shape) S r w' fit' scratch' (iteration (taskIn g (S .penalty) m) (g .targets) S v (stateOf c w fit (keptHere (g .shape) S m) sets))
+  pub turn-goes-on : le v (S .tolerance) ≡ false → t < S .iterations → (r : OuterStep) (w' fit' scratch' : List Float)
+      → shows (g .shape) S r w' fit' scratch' (iteration T (g .targets) S v (stateOf c w fit (keptHere (g .shape) S left) sets))
       → shows (g .shape) S r w' fit' scratch' Turn
-  turn-goes-on p h n r w' fit' scratch' q =
-      rw (turn-iterates T (g .targets) S t c w fit (keptHere (g .shape) S l) l sets v m e h n) (rw (p, kept-checked) at q)
+  turn-goes-on h n r w' fit' scratch' q =
+      rw (turn-iterates T (g .targets) S t c w fit (keptHere (g .shape) S l) sets v vs e h n) (rw (kept-measured (g .shape) l vs long S) at q)
 
 -- ---- what is counted
 pub totalled-more : (t : ℕ) (c d : Totals) → Totalled t c → Grown c d → Totalled (t + 1) d

@@ -1,18 +1,17 @@
 -- `iterate`: the set is built in the index places, and its epochs are run. Assumes nothing.
-use mathlib.Core.Path.{_≡_, refl, sym, ap, _∙_}
-use Prim.Native.Nat.{_+_, _-_, _≤_}
+use mathlib.Core.Path.{_≡_, sym, ap, _∙_}
+use Prim.Native.Nat.{_+_, _≤_}
 use native.Mathlib.Omega.{arith}
 use native.Mathlib.Nat.{le-of-eq, le-trans}
-use lib.ListN.{length, take, drop}
+use lib.ListN.{length, take}
 use lib.Seq.{length-take-le}
 use Rattle.designs.specs.Given.{given}
-use Rattle.definition.specs.Epoch.{Task, violations}
+use Rattle.definition.specs.Epoch.{Task}
 use Rattle.definition.specs.Run.{chosenSet}
-use Rattle.extrapolation.specs.Inner.Places.{taskIn, pointWith}
+use Rattle.extrapolation.specs.Inner.Places.{taskWith, pointWith}
 use Rattle.epochs.proofs.Laws.Ready.{room-for}
-use Rattle.iterations.proofs.Laws.Turns.{start-most, set-built, set-most, set-features, part-violations, set-chosen, numbers-known}
+use Rattle.iterations.proofs.Laws.Turns.{start-most, set-built, set-most, set-features, set-chosen, numbers-known}
 use Rattle.iterations.proofs.Laws.Turns.{shown-going, shown-stopped, shown-bad, grown-by, grown-none}
-use Rattle.doubles.proofs.Laws.Parts.{part-long}
 use Rattle.epochs.specs.declared.Counts.{Counts}
 use Rattle.epochs.specs.declared.InnerStep.{InnerStep}
 use Rattle.epochs.specs.Inner.Reading.{countsOf}
@@ -25,10 +24,10 @@ use Rattle.iterations.proofs.iterate.Tie as tie
 
 -- ---- the places: the start size, the set built, and its epochs run, each from the one behind it
 abbrev entry : tie.After-start-size → tie.Start
-entry c = c .before .before .before .before .before .before .before .before .before .before .before
+entry c = c .before .before .before .before .before .before .before .before .before .before
 
 abbrev sized : tie.After-construct-ws → tie.After-start-size
-sized c = c .before .before .before .before .before
+sized c = c .before .before .before .before
 
 abbrev built : tie.After-run-epochs → tie.After-construct-ws
 built c = c .before .before .before .before .before .before .before .before
@@ -42,14 +41,9 @@ totals c = entry (sized (built c)) .args .totals
 abbrev task : tie.Start → Task
 task c =
     let a = c .args in
-    taskIn (given (a .shape) (now (a .starts)) (now (a .rows)) (now (a .values)) (now (a .y))) (a .settings .penalty) (now (a .scratch))
+    taskWith (given (a .shape) (now (a .starts)) (now (a .rows)) (now (a .values)) (now (a .y))) (a .settings .penalty) (now (a .prepared))
 
--- ---- what is known there: the third p places of the scratch are the violations
-measured : (c : tie.Start) → let p = c .args .shape .p in
-    take (p + p + p - (p + p)) (drop (p + p) (now (c .args .scratch))) ≡ violations (task c) (now (c .args .w)) (now (c .args .fit))
-measured c = part-violations (c .args .shape) (now (c .args .scratch)) ∙ c .pre .3
-
--- the start size is at most the number of weights
+-- ---- what is known there: the start size is at most the number of weights
 few : (c : tie.After-start-size) → c .start-size .result ≤ length (now (entry c .args .w))
 few c = start-most _ _ _ _ (c .start-size .ensures) (entry c .pre .0 .weights)
 
@@ -57,7 +51,7 @@ few c = start-most _ _ _ _ (c .start-size .ensures) (entry c .pre .0 .weights)
 inside : (c : tie.After-construct-ws) → c .construct-ws .result ≤ length (c .construct-ws .last .1 .1 .1 .0)
 inside c =
     let start = entry (sized c) in
-    let places = c .construct-ws .kept .1 .1 .1 .0 ∙ start .pre .1 in
+    let places = c .construct-ws .kept .1 .1 .1 .0 ∙ start .pre .2 in
     let most = set-most _ _ _ (few (sized c)) _ _ (c .construct-ws .ensures .0) (c .construct-ws .ensures .1) in
     le-trans most (le-of-eq (start .pre .0 .weights ∙ sym places))
 
@@ -67,44 +61,32 @@ chosen : (c : tie.After-construct-ws) → let start = entry (sized c) in
     ≡ chosenSet (task start) (start .args .settings) (pointWith (now (start .args .w)) (now (start .args .fit)))
 chosen c =
     let made = set-built _ _ _ (few (sized c)) _ _ (c .construct-ws .ensures .0) (c .construct-ws .ensures .1) in
-    set-chosen _ _ _ _ _ _ _ (sized c .start-size .ensures) (measured (entry (sized c))) made
+    set-chosen _ _ _ _ _ _ _ (sized c .start-size .ensures) (entry (sized c) .pre .4) made
 
 -- the totals grow by what the epochs counted, however they end
 grown : (c : tie.After-run-epochs) (d : Counts) → countsOf (c .run-epochs .result) (totals c .counts) ≡ d
     → Grown (totals c) (record { violation = entry (sized (built c)) .args .v; iterations = totals c .iterations + 1; counts = d })
-grown c d counted = grown-by (totals c) _ (c .run-epochs .result) d counted (c .run-epochs .ensures .2) (c .run-epochs .ensures .3)
+grown c d counted = grown-by (totals c) _ (c .run-epochs .result) d counted (c .run-epochs .ensures .1) (c .run-epochs .ensures .2)
 
 -- ---- the needs
-add-from : tie.Need-add-from
-add-from c = search needs
-
-add-to : tie.Need-add-to
-add-to c = search needs
-
 start-size-requires : tie.Need-start-size-requires
 start-size-requires c κs = search needs
 
-mul-construct-ws : tie.Need-mul-construct-ws
-mul-construct-ws c = search needs
+slice-reshare-prefix-construct-ws : tie.Need-slice-reshare-prefix-construct-ws
+slice-reshare-prefix-construct-ws c = room-for (entry c .pre .0)
 
-sub-construct-ws : tie.Need-sub-construct-ws
-sub-construct-ws c = search needs
-
-part-construct-ws-start : tie.Need-part-construct-ws-start
-part-construct-ws-start c = search needs
-
-part-construct-ws-end : tie.Need-part-construct-ws-end
-part-construct-ws-end c = room-for (entry (c .before) .pre .0)
+slice-aggregate-construct-ws : tie.Need-slice-aggregate-construct-ws
+slice-aggregate-construct-ws c = sym (length-take-le _ _ (room-for (entry (c .before) .pre .0)))
 
 construct-ws-requires : tie.Need-construct-ws-requires
 construct-ws-requires c κs =
-    let start = entry (c .before .before .before .before) in
+    let start = entry (c .before .before .before) in
     let ready = start .pre .0 in (
-      part-long _ _ _ _ refl (room-for ready) ∙ sym (ready .weights),
+      length-take-le _ _ (room-for ready) ∙ sym (ready .weights),
       le-trans (le-of-eq (ready .weights)) (ready .features),
-      few (c .before .before .before .before),
-      start .pre .1 ∙ sym (ready .weights),
-      numbers-known _ _ _ _ (measured start) (start .pre .4) (ready .weights),
+      few (c .before .before .before),
+      start .pre .2 ∙ sym (ready .weights),
+      numbers-known _ _ _ _ (start .pre .4) (start .pre .5) (ready .weights),
     )
 
 slice-reshare-prefix-ws : tie.Need-slice-reshare-prefix-ws
@@ -118,9 +100,10 @@ run-epochs-requires c κs =
     let set = c .before .before .before .before .before .before .before in
     let start = entry (sized set) in
     let weights = start .pre .0 .weights in
-    let epochs = start .pre .2 .counts .epochs in
-    let extrapolations = start .pre .2 .counts .extrapolations in (
+    let epochs = start .pre .3 .counts .epochs in
+    let extrapolations = start .pre .3 .counts .extrapolations in (
       start .pre .0,
+      start .pre .1,
       set-features _ _ _ (few (sized set)) _ _ (set .construct-ws .ensures .0) (set .construct-ws .ensures .1) _ weights,
       record { epochs = omega arith; extrapolations = omega arith },
     )
@@ -130,7 +113,7 @@ enum-known-c c = search needs
 
 one-more-requires : tie.Need-one-more-requires
 one-more-requires c κs =
-    let iterations = entry (sized (built (ran (c .before .before .before)))) .pre .2 .iterations in
+    let iterations = entry (sized (built (ran (c .before .before .before)))) .pre .3 .iterations in
     omega arith
 
 enum-known-c-2 : tie.Need-enum-known-c-2
@@ -138,7 +121,7 @@ enum-known-c-2 c = search needs
 
 one-more-requires-2 : tie.Need-one-more-requires-2
 one-more-requires-2 c κs =
-    let iterations = entry (sized (built (ran (c .before .before .before)))) .pre .2 .iterations in
+    let iterations = entry (sized (built (ran (c .before .before .before)))) .pre .3 .iterations in
     omega arith
 
 enum-told : tie.Need-enum-told
@@ -162,7 +145,7 @@ returns c =
     let is = c .before .before .c .given .1 in
     let shown = shown-going _ _ _ _ _ _ _ _ _ (chosen (built behind)) _ _ _ _ (behind .run-epochs .ensures .0) in
     let counted = ap (λ (r : InnerStep). countsOf r (totals behind .counts)) is in
-    rw (c .one-more .ensures) ((λ sets. shown sets _ is), behind .run-epochs .ensures .1, grown behind _ counted)
+    rw (c .one-more .ensures) ((λ sets. shown sets _ is), grown behind _ counted)
 
 same-length-5 : tie.Need-same-length-5
 same-length-5 c = search needs
@@ -182,7 +165,7 @@ returns-2 c =
     let is = c .before .before .c2 .given .1 in
     let shown = shown-stopped _ _ _ _ _ _ _ _ _ (chosen (built behind)) _ _ _ _ (behind .run-epochs .ensures .0) in
     let counted = ap (λ (r : InnerStep). countsOf r (totals behind .counts)) is in
-    rw (c .one-more2 .ensures) ((λ sets. shown sets _ is), behind .run-epochs .ensures .1, grown behind _ counted)
+    rw (c .one-more2 .ensures) ((λ sets. shown sets _ is), grown behind _ counted)
 
 same-length-9 : tie.Need-same-length-9
 same-length-9 c = search needs
@@ -200,19 +183,15 @@ returns-3 : tie.Need-returns-3
 returns-3 c =
     let behind = ran (c .before .before) in
     let e = behind .run-epochs .ensures in
-    ((λ sets. shown-bad _ _ _ _ _ _ _ _ _ (chosen (built behind)) _ _ _ _ (e .0) sets (c .enum-told .given .1)), e .1, grown-none _)
+    ((λ sets. shown-bad _ _ _ _ _ _ _ _ _ (chosen (built behind)) _ _ _ _ (e .0) sets (c .enum-told .given .1)), grown-none _)
 
 pub iterate-spec : {M : Type 1} → statement M
 iterate-spec =
     tie.close
     (tie.spec
-    add-from
-    add-to
     start-size-requires
-    mul-construct-ws
-    sub-construct-ws
-    part-construct-ws-start
-    part-construct-ws-end
+    slice-reshare-prefix-construct-ws
+    slice-aggregate-construct-ws
     construct-ws-requires
     slice-reshare-prefix-ws
     slice-aggregate-ws

@@ -1,18 +1,41 @@
 -- `turn`: the violations of all features are taken; the run ends, or an iteration follows. Assumes nothing.
-use mathlib.Core.Path.{refl, sym, ap, _∙_}
+use mathlib.Core.Path.{_≡_, refl, sym, ap, _∙_}
+use mathlib.Core.List.{List}
+use lib.Ieee.{Float}
+use lib.ListN.{length}
+use lib.Seq.{length-take-le}
+use denote.Ref.{now}
 use Rattle.epochs.proofs.Laws.Ready.{room-for, ready-still}
-use Rattle.iterations.proofs.Laws.Turns.{violations-read, turn-bad, found-scratch, found-known, turn-stops, turn-goes-on, grown-none, grown-same}
+use Rattle.iterations.proofs.Laws.Turns.{violations-read, long-as-before, found-violations, found-known}
+use Rattle.iterations.proofs.Laws.Turns.{turn-bad, turn-stops, turn-goes-on, grown-none, grown-same}
 use Rattle.visits.specs.Inner.Reading.{measuredOf}
 use Rattle.visits.specs.declared.Worst.{Worst}
 use borrow.Author.Needs.{needs}
 use Rattle.iterations.proofs.turn.Statement.{statement}
 use Rattle.iterations.proofs.turn.Tie as tie
 
+-- ---- the place: the check made, in the scratch's first p places
+abbrev entry : tie.After-opt-cond-violation → tie.Start
+entry c = c .before .before .before .before .before .before .before .before .before .before .before .before .before
+
+abbrev violations : tie.After-opt-cond-violation → List Float
+violations c = c .opt-cond-violation .last .1 .1 .1 .1 .1 .1 .1 .1 .0
+
+long : (c : tie.After-opt-cond-violation) → length (violations c) ≡ entry c .args .shape .p
+long c = c .opt-cond-violation .kept .1 .1 .1 .1 .1 .1 .1 .1 .0 ∙ length-take-le _ _ (room-for (entry c .pre .0))
+
+-- ---- the needs
+slice-relend-prefix-opt-cond-violation : tie.Need-slice-relend-prefix-opt-cond-violation
+slice-relend-prefix-opt-cond-violation c = let start = c .before .before .before .before .before .before .before .before .before .before .before in room-for (start .pre .0)
+
+slice-aggregate-opt-cond-violation : tie.Need-slice-aggregate-opt-cond-violation
+slice-aggregate-opt-cond-violation c = let start = c .before .before .before .before .before .before .before .before .before .before .before .before in sym (length-take-le _ _ (room-for (start .pre .0)))
+
 opt-cond-violation-requires : tie.Need-opt-cond-violation-requires
 opt-cond-violation-requires c κs =
-    let entry = c .before .before .before .before .before .before .before .before .before .before .before in
-    let ready = entry .pre .0 in
-    (ready .samples, ready .features, ready .weights, room-for ready, ready .whole, ready .fits)
+    let start = c .before .before .before .before .before .before .before .before .before .before .before .before in
+    let ready = start .pre .0 in
+    (ready .samples, ready .weights, start .pre .1, ready .whole, ready .fits, length-take-le _ _ (room-for ready))
 
 enum-told : tie.Need-enum-told
 enum-told c = search needs
@@ -34,32 +57,26 @@ same-length-3 c = search needs
 
 returns : tie.Need-returns
 returns c =
-    let at-found = c .before .before .before .before in
-    let at-check = at-found .before .before .before .before in
-    let entry = at-check .before .before .before .before .before .before .before .before .before .before .before .before in
-    let checked = at-check .opt-cond-violation in
-    let scratch = checked .last .1 .1 .1 .1 .1 .1 .1 .0 in
-    let found = sym (ap (λ (r : Worst). measuredOf r scratch) (at-found .v .given .1)) ∙ checked .ensures .0 in (
-      λ t l sets. rw (c .at-violation .ensures) (turn-stops _ _ t _ _ _ _ _ _ (room-for (entry .pre .0)) found sets (c .before .if1 .taken)),
-      checked .ensures .1,
+    let found = c .before .before .before .before in
+    let check = found .before .before .before .before in
+    let is = sym (ap (λ (r : Worst). measuredOf r (violations check)) (found .v .given .1)) ∙ check .opt-cond-violation .ensures in (
+      λ t l sets. rw (c .at-violation .ensures) (turn-stops _ _ _ t _ _ _ _ _ _ (long check) is sets (c .before .if1 .taken)),
       rw (c .at-violation .ensures) (grown-same _ _),
     )
 
 iterate-requires : tie.Need-iterate-requires
 iterate-requires c κs =
-    let at-found = c .before .before .before .before .before .before .before in
-    let at-check = at-found .before .before .before .before in
-    let entry = at-check .before .before .before .before .before .before .before .before .before .before .before .before in
-    let ready = entry .pre .0 in
-    let checked = at-check .opt-cond-violation in
-    let scratch = checked .last .1 .1 .1 .1 .1 .1 .1 .0 in
-    let found = sym (ap (λ (r : Worst). measuredOf r scratch) (at-found .v .given .1)) ∙ checked .ensures .0 in
-    let read = violations-read _ (entry .args .shape) refl _ _ _ (room-for ready) _ (found-scratch _ _ _ _ _ _ found) in (
-      ready-still ready _ _ scratch refl refl (checked .kept .1 .1 .1 .1 .1 .1 .1 .0),
-      entry .pre .1,
-      entry .pre .2,
-      rw (checked .ensures .1) read,
-      rw (checked .ensures .1) (found-known _ _ _ _ _ _ found),
+    let found = c .before .before .before .before .before .before .before in
+    let check = found .before .before .before .before in
+    let start = entry check in
+    let same = long-as-before (start .args .shape) (now (start .args .scratch)) (violations check) in
+    let is = sym (ap (λ (r : Worst). measuredOf r (violations check)) (found .v .given .1)) ∙ check .opt-cond-violation .ensures in (
+      ready-still (start .pre .0) _ _ _ refl refl (same (long check) (room-for (start .pre .0))),
+      start .pre .1,
+      start .pre .2,
+      start .pre .3,
+      violations-read (start .args .shape) _ _ (long check) ∙ found-violations _ _ _ _ _ is,
+      found-known _ _ _ _ _ is,
     )
 
 same-length-4 : tie.Need-same-length-4
@@ -73,11 +90,9 @@ same-length-6 c = search needs
 
 returns-2 : tie.Need-returns-2
 returns-2 c =
-    let at-check = c .before .before .before .before in
-    let checked = at-check .opt-cond-violation in
-    let scratch = checked .last .1 .1 .1 .1 .1 .1 .1 .0 in
-    let found = sym (ap (λ (r : Worst). measuredOf r scratch) (c .enum-told .given .1)) ∙ checked .ensures .0 in
-    (λ t l sets. turn-bad _ _ _ _ _ _ _ _ _ sets found, checked .ensures .1, grown-none _)
+    let check = c .before .before .before .before in
+    let is = sym (ap (λ (r : Worst). measuredOf r (violations check)) (c .enum-told .given .1)) ∙ check .opt-cond-violation .ensures in
+    (λ t l sets. turn-bad _ _ _ _ _ _ _ _ sets is, grown-none _)
 
 same-length-7 : tie.Need-same-length-7
 same-length-7 c = search needs
@@ -93,27 +108,25 @@ same-length-10 c = search needs
 
 returns-3 : tie.Need-returns-3
 returns-3 c =
-    let at-iterate = c .before .before .before .before .before .before .before .before in
-    let at-test = at-iterate .before .before .before .before .before in
-    let at-found = at-test .before .before .before in
-    let at-check = at-found .before .before .before .before in
-    let entry = at-check .before .before .before .before .before .before .before .before .before .before .before .before in
-    let iterated = at-iterate .iterate in
-    let checked = at-check .opt-cond-violation in
-    let scratch = checked .last .1 .1 .1 .1 .1 .1 .1 .0 in
-    let found = sym (ap (λ (r : Worst). measuredOf r scratch) (at-found .v .given .1)) ∙ checked .ensures .0 in
-    let next = iterated .last .1 .1 .1 .1 .1 .1 .1 in (
+    let went-on = c .before .before .before .before .before .before .before .before in
+    let test = went-on .before .before .before .before .before in
+    let found = test .before .before .before in
+    let check = found .before .before .before .before in
+    let iterated = went-on .iterate in
+    let is = sym (ap (λ (r : Worst). measuredOf r (violations check)) (found .v .given .1)) ∙ check .opt-cond-violation .ensures in
+    let next = iterated .last .1 .1 .1 .1 .1 .1 .1 .1 in (
       λ t l sets.
-          turn-goes-on _ _ t _ _ _ _ _ _ (room-for (entry .pre .0)) found sets (checked .ensures .1) (at-test .if1 .left) l
+          turn-goes-on _ _ _ t _ _ _ _ _ _ (long check) is sets (test .if1 .left) l
           (iterated .result) (next .0) (next .1 .0) (next .1 .1 .1 .0) (iterated .ensures .0 sets),
-      iterated .ensures .1 ∙ checked .ensures .1,
-      iterated .ensures .2,
+      iterated .ensures .1,
     )
 
 pub turn-spec : {M : Type 1} → statement M
 turn-spec =
     tie.close
     (tie.spec
+    slice-relend-prefix-opt-cond-violation
+    slice-aggregate-opt-cond-violation
     opt-cond-violation-requires
     enum-told
     enum-known-v

@@ -2,7 +2,7 @@
 use mathlib.Core.Path.{_≡_}
 use mathlib.Core.List.{List, []}
 use Prim.Native.Nat.{ℕ, suc, _+_, _*_, _≤_}
-use lib.ListN.{take, drop}
+use lib.ListN.{take}
 use lib.Ieee.{Float}
 use Rattle.doubles.specs.Num.{#0, pick}
 use Rattle.doubles.specs.Steps.{tab, Stage, going, stopped, bad}
@@ -21,9 +21,9 @@ use Rattle.iterations.specs.declared.RunEnd.the-variants as RunEnd
 abbrev pub nothingKept : Shape → Settings → List Float
 nothingKept s S = tab (λ i. #0) (pick (S .extrapolate) (suc (S .depth) * s .p) 0)
 
--- the violations are its places 2p to 3p
+-- the violations are the scratch's first p places
 abbrev pub violationsIn : Shape → List Float → List Float
-violationsIn s scratch = take (s .p) (drop (s .p + s .p) scratch)
+violationsIn s scratch = take (s .p) scratch
 
 -- ---- the outer loop, and the working sets that were built
 abbrev pub stateOf : Totals → List Float → List Float → List Float → List (List ℕ) → State

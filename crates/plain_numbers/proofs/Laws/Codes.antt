@@ -1,4 +1,4 @@
--- A fit's answer in numbers, by its cases; and a code that is no penalty's: it is refused behind every other setting, and its prox is NaN.
+-- A solve's answer in numbers, by its cases; and a code that is no penalty's: it is refused behind every other setting, and its prox is NaN.
 -- Assumes nothing.
 use mathlib.Core.Path.{_≡_, refl, sym}
 use mathlib.Core.Bool.{Bool, true, false}
@@ -15,13 +15,13 @@ use Rattle.penalties.specs.Penalty.{alphaLegal, ratioLegal, secondLegal, penalt
 use Rattle.penalties.proofs.Numbers.{prox-of-nan}
 use Rattle.designs.specs.Given.{given}
 use Rattle.designs.specs.declared.Shape.{Shape}
-use Rattle.definition.specs.Call.{Lent, fitCall, fitLeft, fitOf, startLegal, depthLegal, settingsFault}
+use Rattle.definition.specs.Call.{Lent, solveCall, solveLeft, fitOf, startLegal, depthLegal, settingsFault}
 use Rattle.definition.specs.declared.Fit.{Fit}
 use Rattle.definition.specs.declared.Fit.the-variants as Fit
 use Rattle.definition.specs.declared.Report.{Report}
 use Rattle.definition.specs.declared.Settings.{Settings}
 use Rattle.plain_numbers.specs.Codes.{numberIn, placeIn, answerIn, noPenalty, codedPenalty, codedProx, codedSettings}
-use Rattle.plain_numbers.specs.Codes.{reply, fitReply}
+use Rattle.plain_numbers.specs.Codes.{reply, solveReply}
 
 -- ---- the arms of a match on the answer
 pub refused-told : (d : Fit) (r : Refusal) (old : Report) → d ≡ Fit.Refused r
@@ -37,12 +37,12 @@ pub same-told : {a f : Fault} {number place : ℕ} → a ≡ f → (number ≡ n
 same-told e h = rw (← e) h
 
 -- ---- a call with a shape s and settings S that are those promised: its answer told, and what it left, are the reply
-module _ {s s' : Shape} (starts rows : List ℕ) (values y : List Float) {S S' : Settings} (b : Lent) (hs : s ≡ s') (hS : S ≡ S') where
+module _ {s s' : Shape} (starts rows : List ℕ) (values y handed : List Float) {S S' : Settings} (b : Lent) (hs : s ≡ s') (hS : S ≡ S') where
   pub called : {o : Outcome Report} {l : Lent} {number place : ℕ} {new : Report} (old : Report)
-      → (o ≡ fitCall (given s starts rows values y) S b) × (l ≡ fitLeft (given s starts rows values y) S b)
+      → (o ≡ solveCall (given s starts rows values y) S handed b) × (l ≡ solveLeft (given s starts rows values y) S handed b)
       → (number ≡ numberIn o) × (place ≡ placeIn o) × (new ≡ answerIn o old)
-      → reply number place new l ≡ fitReply (given s' starts rows values y) S' b old
-  unfolding fitReply
+      → reply number place new l ≡ solveReply (given s' starts rows values y) S' handed b old
+  unfolding solveReply
   called old done told = rw (← hs, ← hS, ← done .0, ← done .1, told .0, told .1, told .2)
 
 -- ---- what follows a chain of tests follows its last

@@ -9,23 +9,17 @@ use Rattle.quadratic.proofs.gradient_j.Tie as tie
 column-dot-requires : tie.Need-column-dot-requires
 column-dot-requires c κs = search needs
 
-add-q : tie.Need-add-q
-add-q c = search needs
-
-mul-q : tie.Need-mul-q
-mul-q c = search needs
-
-shared-slice-read-q : tie.Need-shared-slice-read-q
-shared-slice-read-q c = search needs
+product-of-requires : tie.Need-product-of-requires
+product-of-requires c κs = search needs
 
 gradient-from-requires : tie.Need-gradient-from-requires
 gradient-from-requires c κs = search needs
 
 returns : tie.Need-returns
 unfolding gradient
-returns c = c .gradient-from .ensures ∙ rw (c .before .before .before .before .column-dot .ensures, samples)
+returns c = c .gradient-from .ensures ∙ rw (c .before .product-of .ensures, c .before .before .column-dot .ensures, samples)
 
 pub gradient-j-spec : {M : Type 1} → statement M
 gradient-j-spec =
     tie.close
-    (tie.spec column-dot-requires add-q mul-q shared-slice-read-q gradient-from-requires returns)
+    (tie.spec column-dot-requires product-of-requires gradient-from-requires returns)

@@ -1,6 +1,6 @@
 -- A column and the same column turned: products with a column turn, its squares are the same, and a turned difference times a turned column turns as
 -- the targets do. Assumes nothing.
-use mathlib.Core.Path.{_≡_}
+use mathlib.Core.Path.{_≡_, refl}
 use mathlib.Core.Bool.{Bool}
 use mathlib.Core.List.{List}
 use Prim.Native.Nat.{ℕ, _<_}
@@ -9,7 +9,9 @@ use Rattle.doubles.specs.Sign.{Turned, Signs}
 use Rattle.doubles.proofs.Laws.Turned.{turned-add, turned-mul}
 use Rattle.doubles.proofs.Laws.Compare.{finite-turned, eq-turned}
 use Rattle.doubles.proofs.Laws.Signs.{zero-turned, sum-turned, signs-at, signs-set}
-use Rattle.designs.specs.Design.{Design, dot, squares, moved, finiteAt}
+use Rattle.designs.specs.Design.{Design, dense, csc, laid, dot, squares, moved, finiteAt}
+use Rattle.designs.specs.declared.Layout.{Layout}
+use Rattle.designs.specs.declared.Layout.the-variants.{Dense, Csc}
 use Rattle.definition.specs.Epoch.{movedBy, movedFinite}
 use Rattle.two_runs.proofs.Laws.Loops.{related, all-same, steps-related}
 use Rattle.signs.proofs.Laws.Exact.{unlike-back, sum-exact}
@@ -17,6 +19,13 @@ use Rattle.signs.proofs.Laws.Exact.{unlike-back, sum-exact}
 -- X with other values
 abbrev pub with-values : Design → (ℕ → ℕ → Float) → Design
 with-values X value = record { n = X .n; p = X .p; many = X .many; row = X .row; value = value }
+
+-- two designs of one shape differ in their values alone
+pub alike : (l : Layout) (n p : ℕ) (starts rows : List ℕ) (values values' : List Float)
+    → laid l n p starts rows values' ≡ with-values (laid l n p starts rows values) (laid l n p starts rows values' .value)
+unfolding laid dense csc
+alike Dense n p starts rows values values' = refl
+alike Csc n p starts rows values values' = refl
 
 -- ---- one column j that is turned where a is true
 module _ (X : Design) (other : ℕ → ℕ → Float) (j : ℕ) (a t : Bool) (h : (k : ℕ) → k < X .many j → Turned a (X .value j k) (other j k)) where

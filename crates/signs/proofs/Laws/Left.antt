@@ -59,9 +59,9 @@ module _ (c : ℕ → Bool) (t : Bool) (s : Shape) (S : Settings) (b : Lent) whe
     fit = λ i l. rw (left-fit s S b w fit n i l, left-fit s S b w' fit' (sym (signs-length v) ∙ n) i l) (signs-at v i);
   }
 
-  pub left-turned : (e e' : End) → begun e ≡ true → ((q : State) → e ≡ done q → Sized (s .n) (s .p) (q .inner .point)) → Ends (SameRun c t S) e e'
+  pub buffers-turned : (e e' : End) → begun e ≡ true → ((q : State) → e ≡ done q → Sized (s .n) (s .p) (q .inner .point)) → Ends (SameRun c t S) e e'
       → SameLeft c t s (buffers s S b e) (buffers s S b e')
-  left-turned _ _ a h both-untouched = absurd (false≢true a)
-  left-turned _ _ a h (both-done u) = filled-turned _ _ _ _ (h _ refl .weights) (h _ refl .fit) (u .weights) (u .fit)
-  left-turned _ _ a h both-given-up =
+  buffers-turned _ _ a h both-untouched = absurd (false≢true a)
+  buffers-turned _ _ a h (both-done u) = filled-turned _ _ _ _ (h _ refl .weights) (h _ refl .fit) (u .weights) (u .fit)
+  buffers-turned _ _ a h both-given-up =
       filled-turned _ _ _ _ (length-tab (λ j. #0) (s .p)) (length-tab (λ i. #0) (s .n)) (signs-zeros _ (s .p)) (signs-zeros _ (s .n))

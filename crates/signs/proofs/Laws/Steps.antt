@@ -1,40 +1,38 @@
 -- Every step of a solve respects turned signs: weight j turns where its column or the targets turn, but not where both do, and the fit as the targets.
--- The constants are the same, for they are sums of squares, and X'y turns; so gradients turn with the weights, violations and objectives are the
--- same, and so is the system of an extrapolation, whose entries are sums of products. Assumes nothing.
+-- It is handed the same constants, and X'y turned; so gradients turn with the weights, violations and objectives are the same, and so is the system of
+-- an extrapolation, whose entries are sums of products. Assumes nothing.
 use mathlib.Core.Path.{_≡_, refl, sym, ap, _∙_}
 use mathlib.Core.Bool.{Bool, true, false}
 use mathlib.Core.List.{List}
-use Prim.Native.Nat.{ℕ, suc, _+_, _*_, _≤_, _<_}
+use Prim.Native.Nat.{ℕ, suc, _+_, _*_, _<_}
 use native.Mathlib.Omega.{arith}
-use lib.ListN.{length, getD}
-use lib.Ieee.{Float, binary64, unlike, lt, eq}
-use Rattle.doubles.specs.Num.{_⊖_, _⊘_, #0, #1, count, at, finite, _or_}
-use Rattle.doubles.specs.Steps.{all}
+use lib.ListN.{length, getD, take}
+use lib.Seq.{getD-take}
+use lib.Ieee.{Float, nan, binary64, unlike, lt, eq}
+use Rattle.doubles.specs.Num.{_⊖_, _⊘_, #0, #1, count, at, finite}
 use Rattle.doubles.specs.Sign.{Turned, Signs}
-use Rattle.doubles.proofs.Laws.Choice.{and-both}
 use Rattle.doubles.proofs.Laws.Turned.{turned-sub, turned-over}
 use Rattle.doubles.proofs.Laws.Compare.{finite-turned, eq-turned}
 use Rattle.doubles.proofs.Laws.Signs.{zero-turned, turned-times, sum-turned, signs-at, signs-length}
 use Rattle.doubles.proofs.Laws.Below.{div-not-below, one-not-below}
 use Rattle.doubles.proofs.Laws.Ends.{or-else}
-use Rattle.doubles.proofs.Laws.Steps.{all-each}
 use Rattle.penalties.specs.Odd.{Odd}
 use Rattle.designs.proofs.Laws.Gradients.{gradient-turned}
-use Rattle.designs.proofs.Laws.Preparation.{constant-at, product-at, lipschitz-not-below}
-use Rattle.designs.specs.Design.{Design, lipschitz, prepared, movedAll, extrapolated, squaredError, datafit}
+use Rattle.designs.specs.Design.{Design, movedAll, extrapolated, squaredError, datafit}
 use Rattle.definition.specs.Epoch.{Point, constant, gradientOf, violationOf, known, newWeight, fine, visited}
 use Rattle.definition.specs.Extrapolation.{U, entry, objectiveOf, objective, better, pointOf}
 use Rattle.definition.specs.Run.{State}
-use Rattle.definition.specs.Call.{usable, usableAt, solved, reportOf}
+use Rattle.definition.specs.Call.{acceptableAt, solved, reportOf}
 use Rattle.definition.specs.declared.Report.{Report}
 use Rattle.definition.specs.declared.Settings.{Settings}
+use Rattle.definition.proofs.Laws.Handed.{accepted}
 use Rattle.two_runs.specs.Stages.{Ends}
 use Rattle.two_runs.specs.Alike.{Pair, first, second, Weights, Points, FeatureSet, Rows, Respects, Alike}
 use Rattle.two_runs.proofs.Laws.Loops.{steps-related, ends-map}
 use Rattle.two_runs.proofs.TwoRuns.{two-solves, report-same}
-use Rattle.signs.specs.Turning.{SameRun}
+use Rattle.signs.specs.Turning.{HandedTurning, SameRun}
 use Rattle.signs.proofs.Laws.Exact.{unlike-none, sum-exact, signs-each, finite-same, signs-zeros}
-use Rattle.signs.proofs.Laws.Columns.{with-values, dot-turned, squares-same, moved-turned, moved-by-turned, moved-finite-same}
+use Rattle.signs.proofs.Laws.Columns.{with-values, dot-turned, moved-turned, moved-by-turned, moved-finite-same}
 
 datafit-same : {t : Bool} {y y' v v' : List Float} → Signs (λ (i : ℕ). t) y y' → Signs (λ (i : ℕ). t) v v'
     → datafit y v (length y) ≡ datafit y' v' (length y')
@@ -48,7 +46,8 @@ abbrev pub Same : (ℕ → Bool) → Bool → Settings → State → State → T
 Same c t S s s' = SameRun c t S s s' × (reportOf S s ≡ reportOf S s')
 
 module _ (c : ℕ → Bool) (t : Bool) (X : Design) (other : ℕ → ℕ → Float) (S : Settings) {y y' : List Float} (sy : Signs (λ (i : ℕ). t) y y')
-    (entries : (j k : ℕ) → j < X .p → k < X .many j → Turned (c j) (X .value j k) (other j k)) (n : ℕ) where
+    (entries : (j k : ℕ) → j < X .p → k < X .many j → Turned (c j) (X .value j k) (other j k)) (n : ℕ)
+    {handed handed' : List Float} (numbers : HandedTurning c t (X .p) handed handed') where
   abbrev turning : Pair
   turning = record {
     n = n;
@@ -57,28 +56,22 @@ module _ (c : ℕ → Bool) (t : Bool) (X : Design) (other : ℕ → ℕ → Flo
     settings = S;
     X = X;
     X' = with-values X other;
-    prepared = prepared X y;
-    prepared' = prepared (with-values X other) y';
+    prepared = take (X .p + X .p) handed;
+    prepared' = take (X .p + X .p) handed';
     y = y;
     y' = y';
     weight = λ j. Turned (unlike (c j) t);
     point = λ q q'. Signs (λ (i : ℕ). t) (q .fit) (q' .fit);
   }
 
-  -- ---- what is prepared
-  constants-same : (j : ℕ) → j < X .p → at (prepared X y) j ≡ at (prepared (with-values X other) y') j
-  constants-same j l = constant-at X y j l ∙ same ∙ sym (constant-at (with-values X other) y' j l)
-    where
-      same : lipschitz X j ≡ lipschitz (with-values X other) j
-      same = unfold lipschitz in ap (λ (x : Float). x ⊘ count (X .n)) (squares-same X other j (c j) t (λ k m. entries j k l m))
+  -- ---- the numbers handed over
+  constants-same : (j : ℕ) → j < X .p → constant (first turning) j ≡ constant (second turning) j
+  constants-same j l =
+      rw (getD-take (X .p + X .p) handed j nan (omega arith), getD-take (X .p + X .p) handed' j nan (omega arith)) (numbers .constants j l)
 
-  products-turned : (j : ℕ) → j < X .p → Turned (unlike (c j) t) (at (prepared X y) (X .p + j)) (at (prepared (with-values X other) y') (X .p + j))
+  products-turned : (j : ℕ) → j < X .p → Turned (unlike (c j) t) (at (first turning .prepared) (X .p + j)) (at (second turning .prepared) (X .p + j))
   products-turned j l =
-      rw (product-at X y j l, product-at (with-values X other) y' j l) (dot-turned X other j (c j) t (λ k m. entries j k l m) sy)
-
-  usable-same : (j : ℕ) → j < X .p → usableAt (first turning) j ≡ usableAt (second turning) j
-  unfolding usable
-  usable-same j l = rw (constants-same j l, finite-turned (products-turned j l))
+      rw (getD-take (X .p + X .p) handed (X .p + j) nan (omega arith), getD-take (X .p + X .p) handed' (X .p + j) nan (omega arith)) (numbers .products j l)
 
   -- ---- gradients
   module _ {q q' : Point} (r : Points turning q q') (j : ℕ) (l : j < X .p) where
@@ -99,8 +92,8 @@ module _ (c : ℕ → Bool) (t : Bool) (X : Design) (other : ℕ → ℕ → Flo
       steps-related (λ (k : ℕ). Signs (λ (i : ℕ). t)) _ _ (length ws) _ _ (signs-zeros (λ (i : ℕ). t) (X .n))
       (λ k l f f' r. let j = getD ws k 0 in moved-turned X other j (c j) t (λ i m. entries j i (C .each k l) m) (v .each j (C .each k l)) r)
 
-  module _ (odd : Odd (S .penalty)) (some : 1 ≤ X .n) (few : X .n ≤ 65536) (flat : S .extrapolate ≡ true → (j : ℕ) → c j ≡ false)
-      (passed : all (usableAt (first turning)) (X .p) ≡ true) where
+  module _ (odd : Odd (S .penalty)) (flat : S .extrapolate ≡ true → (j : ℕ) → c j ≡ false)
+      (passed : (j : ℕ) → j < X .p → acceptableAt (X .p) (first turning .prepared) j ≡ true) where
     violation-same : {q q' : Point} → Points turning q q' → (j : ℕ) → j < X .p
         → violationOf (first turning) (q .weights) (q .fit) j ≡ violationOf (second turning) (q' .weights) (q' .fit) j
     unfolding violationOf
@@ -108,21 +101,20 @@ module _ (c : ℕ → Bool) (t : Bool) (X : Design) (other : ℕ → ℕ → Flo
 
     -- ---- a visit
     module _ {q q' : Point} (r : Points turning q q') (j : ℕ) (l : j < X .p) (z : eq (constant (first turning) j) #0 ≡ false) where
-      -- refusal 7 let the inverse pass
-      inverse-of : (finite (#1 ⊘ at (prepared X y) j) ≡ true) × (lt (#1 ⊘ at (prepared X y) j) #0 ≡ false)
-      unfolding usable
+      abbrev L : Float
+      L = constant (first turning) j
+
+      -- refusal 10 let the inverse pass
+      inverse-of : (finite (#1 ⊘ L) ≡ true) × (lt (#1 ⊘ L) #0 ≡ false)
       inverse-of =
-          let u = and-both (finite (constant (first turning) j)) _ (all-each (usableAt (first turning)) (X .p) passed j l) .1 in
-          let b = and-both (eq (constant (first turning) j) #0 or finite (#1 ⊘ constant (first turning) j)) _ u .0 in
-          let n : lt (at (prepared X y) j) #0 ≡ false = rw (constant-at X y j l) (lipschitz-not-below X j some few) in
-          (or-else _ _ b z, div-not-below #1 (at (prepared X y) j) one-not-below n z)
+          let a = accepted L _ (passed j l) in
+          (or-else _ _ (a .inverse) z, div-not-below #1 L one-not-below (a .not-below) z)
 
       new-weight : Turned (unlike (c j) t) (newWeight (first turning) q j) (newWeight (second turning) q' j)
       unfolding newWeight
       new-weight =
           rw (← constants-same j l)
-          (odd .prox (#1 ⊘ at (prepared X y) j) (inverse-of .0) (inverse-of .1)
-          (turned-sub binary64 (r .weights .each j l) (turned-over binary64 (at (prepared X y) j) (gradient-of r j l))))
+          (odd .prox (#1 ⊘ L) (inverse-of .0) (inverse-of .1) (turned-sub binary64 (r .weights .each j l) (turned-over binary64 L (gradient-of r j l))))
 
       difference : Turned (unlike (c j) t) (newWeight (first turning) q j ⊖ at (q .weights) j) (newWeight (second turning) q' j ⊖ at (q' .weights) j)
       difference = turned-sub binary64 new-weight (r .weights .each j l)
@@ -192,6 +184,7 @@ module _ (c : ℕ → Bool) (t : Bool) (X : Design) (other : ℕ → ℕ → Flo
       } in
       (run, r)
 
-  pub solved-turned : Odd (S .penalty) → 1 ≤ X .n → X .n ≤ 65536 → (S .extrapolate ≡ true → (j : ℕ) → c j ≡ false)
+  pub solved-turned : Odd (S .penalty) → (S .extrapolate ≡ true → (j : ℕ) → c j ≡ false)
+      → ((j : ℕ) → j < X .p → acceptableAt (X .p) (first turning .prepared) j ≡ true)
       → Ends (Same c t S) (solved (first turning) y S) (solved (second turning) y' S)
-  solved-turned odd some few flat = ends-map same-run (two-solves turning usable-same (respects odd some few flat))
+  solved-turned odd flat passed = ends-map same-run (two-solves turning (respects odd flat passed))

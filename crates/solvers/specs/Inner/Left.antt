@@ -3,8 +3,9 @@ use mathlib.Core.Path.{_≡_}
 use mathlib.Core.List.{List}
 use lib.Ieee.{Float, le}
 use Rattle.doubles.specs.Num.{pick}
+use Rattle.doubles.specs.Steps.{zeros}
 use Rattle.designs.specs.declared.Shape.{Shape}
-use Rattle.definition.specs.Call.{End, untouched, givenUp, done, zeros}
+use Rattle.definition.specs.Call.{End, untouched, givenUp, done}
 use Rattle.definition.specs.declared.Report.{Report}
 use Rattle.iterations.specs.declared.Totals.{Totals}
 

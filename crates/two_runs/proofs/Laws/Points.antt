@@ -11,13 +11,12 @@ use lib.Seq.{getD-set-same, getD-set-other}
 use lib.Ieee.{Float, nan, eq}
 use borrow.Author.Tests.{eqb-true, eqb-false}
 use Rattle.doubles.specs.Num.{#0, at, pick}
-use Rattle.doubles.specs.Steps.{upto}
+use Rattle.doubles.specs.Steps.{zeros, upto}
 use Rattle.doubles.proofs.Laws.Choice.{smaller-most}
 use Rattle.doubles.proofs.Laws.Steps.{steps-same, tab-same, length-tab, getD-tab}
 use Rattle.definition.specs.WorkingSet.{isZero, support, size, insert, others, workingSet}
 use Rattle.definition.specs.Epoch.{Point, constant, known, allKnown, violations, worst, knownIn, worstIn, fine, visited, visit, visits}
 use Rattle.definition.specs.Run.{startSize, chosenSet}
-use Rattle.definition.specs.Call.{zeros}
 use Rattle.worksets.proofs.Laws.Sets.{size-most, length-workingSet, workingSet-each}
 use Rattle.two_runs.specs.Stages.{Both, both-going, both-bad}
 use Rattle.two_runs.specs.Alike.{Pair, first, second, Weights, Points, FeatureSet, Respects}

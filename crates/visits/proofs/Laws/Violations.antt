@@ -3,16 +3,11 @@ use mathlib.Core.Path.{_≡_, sym, ap, _∙_}
 use mathlib.Core.Bool.{Bool, true, false}
 use mathlib.Core.List.{List}
 use Prim.Native.Nat.{ℕ, _+_, _≤_, _<_}
-use native.Mathlib.Omega.{arith}
-use lib.Ieee.{Float, nan, inf, neg, div, ofBits}
-use lib.ListN.{length, take}
-use lib.Seq.{getD-take}
+use lib.Ieee.{Float, inf, neg, div, ofBits}
+use lib.ListN.{length}
 use Rattle.doubles.specs.Num.{_⊘_, #0, #1, at, finite, larger, pick, _and_}
 use Rattle.doubles.specs.Steps.{Stage, going, bad, all, largest, tab}
-use Rattle.doubles.specs.Buffer.{put}
-use Rattle.doubles.proofs.Laws.Steps.{steps-none, steps-turn, steps-all, steps-same, length-tab, tab-same, all-more, all-broken, picked, not-picked}
-use Rattle.doubles.proofs.Laws.Buffer.{put-here, put-in, put-put, put-all}
-use Rattle.doubles.proofs.Laws.Parts.{part-before}
+use Rattle.doubles.proofs.Laws.Steps.{steps-none, steps-turn, steps-all, steps-same, tab-same, all-more, all-broken, picked, not-picked}
 use Rattle.penalties.specs.Penalty.{violation}
 use Rattle.penalties.specs.declared.separable.Penalty.{Penalty}
 use Rattle.designs.specs.Design.{Design, design, gradient, fullGradient}
@@ -20,7 +15,7 @@ use Rattle.designs.specs.declared.Shape.{Shape}
 use Rattle.designs.proofs.Laws.Layouts.{features}
 use Rattle.designs.proofs.Laws.Gradients.{length-gradients, gradients-at}
 use Rattle.definition.specs.Epoch.{Task, task, gradientOf, violationOf, known, allKnown, violations, worst}
-use Rattle.visits.specs.Inner.Reading.{worstOf, measuredOf, violationAt, violationThere, knownThere, finished, measured}
+use Rattle.visits.specs.Inner.Reading.{worstOf, violationAt, violationThere, knownThere, finished, measured}
 use Rattle.visits.specs.declared.Worst.{Worst}
 use Rattle.visits.specs.declared.Worst.the-variants.{Bad, Is}
 
@@ -74,89 +69,60 @@ pub of-feature : (T : Task) (w fit : List Float) (j k : ℕ) (a g : Float) (x : 
 unfolding gradientOf
 of-feature T w fit j k a g x ej ea eg e = e ∙ rw (ea, eg, ej)
 
--- ---- a scratch in which the first j of the places from 2p on are written: the next holds its gradient still
-pub gradient-here : (penalty : Penalty) (w : List Float) (a : Float) (f : ℕ → Float) (l s : List Float) (p j : ℕ) (x : Stage Float)
-    → s ≡ put l (p + p) (tab f j) → p + p + p ≤ length l → j < p → a ≡ at w j → x ≡ violationAt penalty a (at s (p + p + j))
-    → x ≡ violationAt penalty (at w j) (at l (p + p + j))
-gradient-here penalty w a f l s p j x e h k ea q =
-    let t : at s (p + p + j) ≡ at l (p + p + j) = rw e (put-here f l (p + p) j nan (omega arith)) in
-    q ∙ rw (ea, t)
+-- the answer for feature j of all, of its weight a and its gradient x
+pub of-place : (penalty : Penalty) (w g : List Float) (j : ℕ) (a x : Float) (r : Stage Float) → a ≡ at w j → x ≡ at g j → r ≡ violationAt penalty a x
+    → r ≡ violationAt penalty (at w j) (at g j)
+of-place penalty w g j a x r ea ex e = e ∙ rw (ea, ex)
 
--- how the loop over it ends; constants and X'y stay
-module _ (penalty : Penalty) (w l : List Float) (p : ℕ) (long : p + p + p ≤ length l) {i : ℕ} {x : Float}
-    (h : Passed penalty (at w) (λ k. at l (p + p + k)) i x) (s : List Float) (e : s ≡ put l (p + p) (tab (violationThere penalty w p l) i)) where
-  front-kept : take (p + p) s ≡ take (p + p) l
-  front-kept = rw e (part-before l (p + p) 0 (p + p) (tab (violationThere penalty w p l) i) (omega arith) (omega arith))
-
-  pub finished-bad : {r : Worst} → worstOf r ≡ violationAt penalty (at w i) (at l (p + p + i)) → r ≡ Bad → i < p
-      → (bad ≡ finished penalty w p l) × (take (p + p) s ≡ take (p + p) l)
+-- ---- the slice whose first gradients are violations already: how the loop over it ends
+module _ (penalty : Penalty) (w g : List Float) {i : ℕ} {x : Float} (h : Passed penalty (at w) (at g) i x) where
+  pub finished-bad : {r : Worst} → worstOf r ≡ violationAt penalty (at w i) (at g i) → r ≡ Bad → i < length g → bad ≡ finished penalty w g
   unfolding finished
-  finished-bad a q k = (passed-bad h a _ p q k, front-kept)
+  finished-bad a q k = passed-bad h a _ (length g) q k
 
-  pub finished-all : i ≤ p → p ≤ i → (going (record { largest = x; scratch = s }) ≡ finished penalty w p l) × (take (p + p) s ≡ take (p + p) l)
+  pub finished-all : (l : List Float) → l ≡ tab (violationThere penalty w g) (length g) → i ≤ length g → length g ≤ i
+      → going (record { largest = x; violations = l }) ≡ finished penalty w g
   unfolding finished
-  finished-all a b = (passed-all h (λ x. record { largest = x; scratch = s }) p a b ∙ rw (put-all _ _ _ _ _ _ e a b), front-kept)
+  finished-all l e a b = passed-all h (λ x. record { largest = x; violations = l }) (length g) a b ∙ rw e
 
--- ---- where the places from 2p on hold the gradients of all features, what is finished is what the definition measures
-module _ (s : Shape) (starts rows : List ℕ) (values : List Float) (penalty : Penalty) (w fit l : List Float)
-    (long : s .p + s .p + s .p ≤ length l) where
+-- ---- of the gradients of all features, what is finished is what the definition measures
+module _ (s : Shape) (starts rows : List ℕ) (values : List Float) (penalty : Penalty) (prepared w fit : List Float) where
   abbrev X : Design
   X = design s starts rows values
 
   abbrev T : Task
-  T = task s starts rows values penalty (take (s .p + s .p) l)
+  T = task s starts rows values penalty prepared
 
   abbrev gradients : List Float
-  gradients = fullGradient X fit (λ j. at l (s .p + j))
-
-  abbrev filled : List Float
-  filled = put l (s .p + s .p) gradients
+  gradients = fullGradient X fit (λ j. at prepared (s .p + j))
 
   p-features : X .p ≡ s .p
   p-features = features (s .layout) (s .n) (s .p) starts rows values
 
   long-gradients : length gradients ≡ s .p
-  long-gradients = length-gradients X fit (λ j. at l (s .p + j)) ∙ p-features
+  long-gradients = length-gradients X fit (λ j. at prepared (s .p + j)) ∙ p-features
 
-  gradient-same : (j : ℕ) → j < s .p → at filled (s .p + s .p + j) ≡ gradientOf T fit j
+  gradient-same : (j : ℕ) → j < s .p → at gradients j ≡ gradientOf T fit j
   unfolding gradientOf
-  gradient-same j h =
-      let p = s .p in
-      let n = long-gradients in
-      put-in l (p + p) gradients j nan (omega arith) (omega arith)
-      ∙ gradients-at X fit (λ j. at l (p + j)) j (rw p-features h)
-      ∙ ap (gradient X j fit) (sym (getD-take (p + p) l (p + j) nan (omega arith)))
+  gradient-same j h = gradients-at X fit (λ j. at prepared (s .p + j)) j (rw p-features h)
 
-  violation-same : (j : ℕ) → j < s .p → violationThere penalty w (s .p) filled j ≡ violationOf T w fit j
+  violation-same : (j : ℕ) → j < s .p → violationThere penalty w gradients j ≡ violationOf T w fit j
   unfolding violationOf
   violation-same j h = ap (violation penalty (at w j)) (gradient-same j h)
 
-  known-same : (j : ℕ) → j < s .p → knownThere penalty w (s .p) filled j ≡ known T w fit j
+  known-same : (j : ℕ) → j < s .p → knownThere penalty w gradients j ≡ known T w fit j
   unfolding known violationOf
   known-same j h = rw (gradient-same j h)
 
-  finished-measured : finished penalty w (s .p) filled ≡ measured T w fit l
+  pub finished-measured : finished penalty w gradients ≡ measured T w fit
   unfolding finished measured allKnown worst violations
   finished-measured =
       let p = s .p in
-      let n = long-gradients in
-      let f = violationThere penalty w p filled in
-      let a : all (knownThere penalty w p filled) p ≡ all (known T w fit) p =
-      steps-same (λ i b. b and knownThere penalty w p filled i) (λ i b. b and known T w fit i) p true
+      let f = violationThere penalty w gradients in
+      let a : all (knownThere penalty w gradients) p ≡ all (known T w fit) p =
+      steps-same (λ i b. b and knownThere penalty w gradients i) (λ i b. b and known T w fit i) p true
       (λ k h b. ap (λ (z : Bool). b and z) (known-same k h)) in
       let v : largest f p ≡ largest (violationOf T w fit) p =
       steps-same (λ i v. larger v (f i)) (λ i v. larger v (violationOf T w fit i)) p (inf true) (λ k h b. ap (larger b) (violation-same k h)) in
       let t : tab f p ≡ tab (violationOf T w fit) p = tab-same f (violationOf T w fit) p violation-same in
-      let q : put filled (p + p) (tab (violationOf T w fit) p) ≡ put l (p + p) (tab (violationOf T w fit) p) =
-      put-put l (p + p) gradients (tab (violationOf T w fit) p) (omega arith) (n ∙ sym (length-tab (violationOf T w fit) p)) in
-      rw (a, v, t, q)
-
-  pub measured-here : (b m : List Float) (r : Worst) → b ≡ filled
-      → (measuredOf r m ≡ finished penalty w (s .p) b) × (take (s .p + s .p) m ≡ take (s .p + s .p) b)
-      → (measuredOf r m ≡ measured T w fit l) × (take (s .p + s .p) m ≡ take (s .p + s .p) l)
-  measured-here b m r e q =
-      let g = s .p + s .p in
-      let n = long-gradients in (
-        q .0 ∙ ap (finished penalty w (s .p)) e ∙ finished-measured,
-        q .1 ∙ ap (take g) e ∙ part-before l g 0 g gradients (omega arith) (omega arith),
-      )
+      rw (long-gradients, a, v, t)

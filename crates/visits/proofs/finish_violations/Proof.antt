@@ -1,40 +1,33 @@
--- `finish_violations`: the invariant is that all features passed had finite numbers, their largest violation, and the violations in their
+-- `finish_violations`: the invariant is that all features passed had finite numbers, their largest violation, and the violations in the gradients'
 -- places. Assumes nothing.
 use borrow.Author.Needs.{needs}
-use mathlib.Core.Path.{_≡_}
-use Prim.Native.Nat.{_≤_, _-_, _+_}
-use lib.Ieee.{nan}
-use lib.ListN.{length}
-use denote.Ref.{now}
+use mathlib.Core.Path.{_≡_, refl}
+use mathlib.Core.List.{_++_}
+use Prim.Native.Nat.{_≤_, _<_, _-_}
 use native.Mathlib.Omega.{arith}
+use lib.Ieee.{nan}
+use lib.ListN.{length, drop}
+use denote.Ref.{now}
 use Rattle.doubles.specs.Num.{at}
 use Rattle.doubles.specs.Steps.{tab}
-use Rattle.doubles.specs.Buffer.{put}
-use Rattle.doubles.proofs.Laws.Buffer.{put-none, put-more}
-use Rattle.penalties.specs.Penalty.{violation}
-use Rattle.visits.proofs.Laws.Violations.{Passed, passed-none, passed-more, passed-value, gradient-here, finished-bad, finished-all}
+use Rattle.doubles.proofs.Laws.Steps.{tab-none, tab-here, tab-more, tab-all}
+use Rattle.visits.specs.Inner.Reading.{violationThere}
+use Rattle.visits.proofs.Laws.Violations.{Passed, passed-none, passed-more, passed-value, of-place, finished-bad, finished-all}
 use Rattle.visits.proofs.finish_violations.Statement.{statement}
 use Rattle.visits.proofs.finish_violations.Tie as tie
 
 abbrev Inv-loop : tie.InvT-loop
-Inv-loop p penalty w scratch₀ largest₀ j₀ scratch largest j = (j ≤ p) × (length scratch ≡ length scratch₀)
-    × (scratch ≡ put scratch₀ (p + p) (tab (λ k. violation penalty (at w k) (at scratch₀ (p + p + k))) j))
-    × Passed penalty (at w) (λ k. at scratch₀ (p + p + k)) j largest
+Inv-loop penalty w gradients₀ largest₀ j₀ gradients largest j = (j ≤ length gradients₀) × (length gradients ≡ length gradients₀)
+    × (gradients ≡ tab (violationThere penalty w gradients₀) j ++ drop j gradients₀) × Passed penalty (at w) (at gradients₀) j largest
 
 abbrev μ-loop : tie.MeasureT-loop
-μ-loop p penalty w scratch₀ largest₀ j₀ scratch largest j = p - j
+μ-loop penalty w gradients₀ largest₀ j₀ gradients largest j = length gradients₀ - j
 
 loop-holds : tie.Need-loop-holds Inv-loop μ-loop
-loop-holds c = (search needs, search needs, put-none _ _ _, passed-none)
+loop-holds c = (search needs, search needs, tab-none _ _, passed-none)
 
 weight-requires : tie.Need-weight-requires Inv-loop μ-loop
 weight-requires c κs = search needs
-
-add-violation-at : tie.Need-add-violation-at Inv-loop μ-loop
-add-violation-at c = search needs
-
-add-violation-at-2 : tie.Need-add-violation-at-2 Inv-loop μ-loop
-add-violation-at-2 c = search needs
 
 mul-violation-at : tie.Need-mul-violation-at Inv-loop μ-loop
 mul-violation-at c = search needs
@@ -53,29 +46,24 @@ same-length c = search needs
 
 returns : tie.Need-returns Inv-loop μ-loop
 returns c =
-    let test = c .before .before .before .before .before in
-    let passed = test .before .loop .inv in
-    let start = test .before .before .before .before in
-    let long = start .pre .2 in
+    let turn = c .before .before .before .before .before .before in
+    let start = turn .before .before .before in
+    let inside : turn .loop .j < length (now (start .args .gradients)) = omega arith in
+    let same = tab-here _ _ _ _ (turn .loop .inv .2) nan inside in
     let w = now (start .args .w) in
-    let here = gradient-here _ w _ _ _ _ _ _ _ (passed .2) long (test .loop-test .taken) in
-    let there = here (c .before .before .before .before .weight .ensures) (c .before .before .violation-at .ensures) in
-    finished-bad _ w (now (start .args .scratch)) _ long (passed .3) _ (passed .2) there (c .enum-told .given .1) (test .loop-test .taken)
+    let g = now (start .args .gradients) in
+    let weighed = c .before .before .before .before .weight .ensures in
+    let there = of-place _ w g (turn .loop .j) _ _ _ weighed same (c .before .before .violation-at .ensures) in
+    finished-bad _ w g (turn .loop .inv .3) there (c .enum-told .given .1) inside
 
 enum-known-v : tie.Need-enum-known-v Inv-loop μ-loop
 enum-known-v c = search needs
 
-add-scratch : tie.Need-add-scratch Inv-loop μ-loop
-add-scratch c = search needs
+mul-gradients : tie.Need-mul-gradients Inv-loop μ-loop
+mul-gradients c = search needs
 
-add-scratch-2 : tie.Need-add-scratch-2 Inv-loop μ-loop
-add-scratch-2 c = search needs
-
-mul-scratch : tie.Need-mul-scratch Inv-loop μ-loop
-mul-scratch c = search needs
-
-slice-write-scratch : tie.Need-slice-write-scratch Inv-loop μ-loop
-slice-write-scratch c = search needs
+slice-write-gradients : tie.Need-slice-write-gradients Inv-loop μ-loop
+slice-write-gradients c = search needs
 
 larger-requires : tie.Need-larger-requires Inv-loop μ-loop
 larger-requires c κs = search needs
@@ -88,17 +76,17 @@ loop-less c = search needs
 
 loop-again : tie.Need-loop-again Inv-loop μ-loop
 loop-again c =
-    let weighed = c .before .before .before .before .before .before in
-    let turn = weighed .before .before in
+    let turn = c .before .before .before .before .before .before .before .before in
     let start = turn .before .before .before in
-    let passed = turn .loop .inv in
-    let here = gradient-here _ (now (start .args .w)) _ _ _ _ _ _ _ (passed .2) (start .pre .2) (weighed .before .loop-test .taken) in
-    let there = here (weighed .weight .ensures) (c .before .before .before .before .violation-at .ensures) in
+    let inside : turn .loop .j < length (now (start .args .gradients)) = omega arith in
+    let same = tab-here _ _ _ _ (turn .loop .inv .2) nan inside in
+    let weighed = c .before .before .before .before .before .before .weight .ensures in
+    let there = of-place _ (now (start .args .w)) (now (start .args .gradients)) (turn .loop .j) _ _ _ weighed same (c .before .before .before .before .violation-at .ensures) in
     let told = c .before .before .v .given .1 in (
       search needs,
       search needs,
-      rw (passed .2) (put-more _ _ _ _ nan (omega arith) _ (passed-value (passed .3) there told)),
-      passed-more (passed .3) there told (c .larger .ensures),
+      tab-more _ _ _ _ (turn .loop .inv .2) _ inside (passed-value (turn .loop .inv .3) there told),
+      passed-more (turn .loop .inv .3) there told (c .larger .ensures),
     )
 
 same-length-2 : tie.Need-same-length-2 Inv-loop μ-loop
@@ -106,10 +94,11 @@ same-length-2 c = search needs
 
 returns-2 : tie.Need-returns-2 Inv-loop μ-loop
 returns-2 c =
-    let entry = c .before .before .before .before in
-    let passed = c .before .loop .inv in
-    finished-all _ (now (entry .args .w)) (now (entry .args .scratch)) _ (entry .pre .2) (passed .3) _ (passed .2) (passed .0)
-    (c .loop-test .left)
+    let inv = c .before .loop .inv in
+    let start = c .before .before .before .before in
+    let none-left : length (now (start .args .gradients)) ≤ c .before .loop .j = omega arith in
+    let all = tab-all _ _ _ _ (inv .2) _ refl (inv .0) none-left in
+    finished-all _ (now (start .args .w)) (now (start .args .gradients)) (inv .3) _ all (inv .0) none-left
 
 pub finish-violations-spec : {M : Type 1} → statement M
 finish-violations-spec =
@@ -119,8 +108,6 @@ finish-violations-spec =
     μ-loop
     loop-holds
     weight-requires
-    add-violation-at
-    add-violation-at-2
     mul-violation-at
     slice-read-violation-at
     violation-at-requires
@@ -128,10 +115,8 @@ finish-violations-spec =
     same-length
     returns
     enum-known-v
-    add-scratch
-    add-scratch-2
-    mul-scratch
-    slice-write-scratch
+    mul-gradients
+    slice-write-gradients
     larger-requires
     add-j
     loop-less

@@ -1,0 +1,2 @@
+-- Laws on the preparation.
+pub mod Settled
