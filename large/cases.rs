@@ -20,8 +20,11 @@ pub struct Settings {
     pub depth: u32,
 }
 
-/// The lengths of weights, fit, indices and scratch.
-pub type Lent = [u32; 4];
+/// The lengths of weights, fit, indices and scratch, then that of the prepared numbers.
+pub type Lent = [u32; 5];
+
+/// What is done to the prepared numbers before a solve is handed them.
+pub type Change = fn(&mut [f64]);
 
 #[derive(Clone)]
 pub struct Case {
@@ -34,12 +37,15 @@ pub struct Case {
     pub targets: Vec<f64>,
     pub settings: Settings,
     pub lent: Lent,
+    pub change: Option<Change>,
 }
 
 /// A case is made when its turn comes: the largest take gigabytes together. The quick ones are a part of the tests.
 pub struct Named {
     pub name: String,
     pub quick: bool,
+    /// Cases that share this have the same design and targets, which are prepared once.
+    pub design: Option<String>,
     pub make: Box<dyn Fn() -> Case>,
 }
 
@@ -65,10 +71,10 @@ impl Random {
     }
 }
 
-/// The room that document 01 asks for.
+/// The room that document 01 asks for, of which request 5 takes the prepared numbers out of the scratch.
 fn room(n: u32, p: u32, s: &Settings) -> Lent {
-    let scratch = if s.extrapolate { (2 * s.depth + 5) * p + n } else { 3 * p };
-    [p, n, p, scratch]
+    let scratch = if s.extrapolate { (2 * s.depth + 3) * p + n } else { p };
+    [p, n, p, scratch, 2 * p]
 }
 
 impl Case {
@@ -107,6 +113,10 @@ impl Case {
         self.lent = room(self.n, self.p, &self.settings);
         self
     }
+
+    fn handed(self, change: Change) -> Case {
+        Case { change: Some(change), ..self }
+    }
 }
 
 fn plain() -> Settings {
@@ -137,7 +147,7 @@ pub fn dense(n: u32, p: u32, like: f64, share: f64) -> Case {
     let (csc, starts, rows) = (false, vec![], vec![]);
     let settings = plain();
     let lent = room(n, p, &settings);
-    Case { csc, n, p, starts, rows, values, targets: vec![], settings, lent }.aimed(&mut random, share)
+    Case { csc, n, p, starts, rows, values, targets: vec![], settings, lent, change: None }.aimed(&mut random, share)
 }
 
 /// `many` entries a column, one in each of as many stretches of rows. Sixty-four neighbours share their rows, and resemble each other as much as `like`
@@ -159,7 +169,7 @@ pub fn csc(n: u32, p: u32, many: u32, like: f64, share: f64) -> Case {
     }
     let settings = plain();
     let lent = room(n, p, &settings);
-    Case { csc: true, n, p, starts, rows, values, targets: vec![], settings, lent }.aimed(&mut random, share)
+    Case { csc: true, n, p, starts, rows, values, targets: vec![], settings, lent, change: None }.aimed(&mut random, share)
 }
 
 /// One column, or one row, of ones: sizes at their limits cost little.
@@ -170,14 +180,21 @@ fn ones(csc: bool, n: u32, p: u32, stored: u32) -> Case {
     starts.push(stored);
     let rows: Vec<u32> = (0..stored).collect();
     let (starts, rows) = if csc { (starts, rows) } else { (vec![], vec![]) };
-    Case { csc, n, p, starts, rows, values, targets: vec![1.0; n as usize], lent: room(n, p, &settings), settings }
+    let lent = room(n, p, &settings);
+    Case { csc, n, p, starts, rows, values, targets: vec![1.0; n as usize], lent, settings, change: None }
 }
 
 struct Cases(Vec<Named>);
 
 impl Cases {
     fn add(&mut self, name: &str, quick: bool, make: impl Fn() -> Case + 'static) {
-        self.0.push(Named { name: name.replace(' ', "-"), quick, make: Box::new(make) });
+        self.0.push(Named { name: name.replace(' ', "-"), quick, design: None, make: Box::new(make) });
+    }
+
+    /// A case whose design is prepared once, for all that name it so.
+    fn add_of(&mut self, design: String, name: &str, quick: bool, make: impl Fn() -> Case + 'static) {
+        self.add(name, quick, make);
+        self.0.last_mut().expect("one was added").design = Some(design);
     }
 
     /// A small sound problem with one thing changed.
@@ -199,25 +216,25 @@ impl Cases {
     fn whole_fits(&mut self) {
         for (quick, n, p) in [(true, 300, 500), (false, 1_000, 2_000), (false, 200, 8_192), (false, 65_536, 256)] {
             let size = format!("dense {n} x {p}");
-            self.add(&format!("{size} l1"), quick, move || dense(n, p, 0.0, 0.1));
-            self.add(&format!("{size} l1 far"), quick, move || dense(n, p, 0.0, 0.01).with(|s| s.epochs = 12));
+            self.add_of(size.clone(), &format!("{size} l1"), quick, move || dense(n, p, 0.0, 0.1));
+            self.add_of(size.clone(), &format!("{size} l1 far"), quick, move || dense(n, p, 0.0, 0.01).with(|s| s.epochs = 12));
             self.add(&format!("{size} alike extrapolated"), quick, move || {
                 dense(n, p, 0.99, 0.001).with(|s| (s.extrapolate, s.depth, s.iterations, s.epochs) = (true, 4, 5, 30))
             });
             self.add(&format!("{size} net"), quick, move || {
                 dense(n, p, 0.5, 0.1).with(|s| (s.penalty, s.second) = (Penalty::L1PlusL2, 0.75))
             });
-            self.add(&format!("{size} mcp deepest"), quick, move || {
+            self.add_of(size.clone(), &format!("{size} mcp deepest"), quick, move || {
                 dense(n, p, 0.0, 0.1).with(|s| (s.penalty, s.second, s.extrapolate, s.depth) = (Penalty::Mcp, 8.0, true, 10))
             });
         }
         for (quick, n, p, many) in [(true, 2_000, 700, 20), (false, 20_000, 5_000, 200), (false, 65_536, 8_192, 2_048)] {
             let size = format!("csc {n} x {p} of {}", many * p);
-            self.add(&format!("{size} l1"), quick, move || csc(n, p, many, 0.5, 0.1));
+            self.add_of(size.clone(), &format!("{size} l1"), quick, move || csc(n, p, many, 0.5, 0.1));
             self.add(&format!("{size} extrapolated"), quick, move || {
                 csc(n, p, many, 0.99, 0.01).with(|s| (s.extrapolate, s.depth) = (true, 4))
             });
-            self.add(&format!("{size} mcp"), quick, move || {
+            self.add_of(size.clone(), &format!("{size} mcp"), quick, move || {
                 csc(n, p, many, 0.5, 0.1).with(|s| (s.penalty, s.second) = (Penalty::Mcp, 8.0))
             });
         }
@@ -293,7 +310,7 @@ impl Cases {
 
     /// 3, one below each room; what is longer is in every other case.
     fn rooms(&mut self) {
-        for (which, name) in ["weights", "fit", "indices", "scratch"].into_iter().enumerate() {
+        for (which, name) in ["weights", "fit", "indices", "scratch", "prepared"].into_iter().enumerate() {
             self.changed(&format!("{name} short"), true, move |c| c.lent[which] -= 1);
         }
         self.changed("scratch short extrapolated", true, |c| {
@@ -324,6 +341,24 @@ impl Cases {
         csc_only(self, "row repeated", |c| c.rows[799] = c.rows[798]);
         csc_only(self, "value not a number", |c| *c.values.last_mut().unwrap() = f64::NAN);
     }
+
+    /// 10, at the far end and before it, and numbers that are no design's own.
+    fn handed(&mut self) {
+        let changes: [(&str, Change); 8] = [
+            ("last constant infinite", |numbers| numbers[8_191] = f64::INFINITY),
+            ("last constant negative", |numbers| numbers[8_191] = -f64::from_bits(1)),
+            ("last constant without inverse", |numbers| numbers[8_191] = f64::from_bits(1 << 50)),
+            ("last product not a number", |numbers| numbers[16_383] = f64::NAN),
+            ("two numbers bad", |numbers| (numbers[8_000], numbers[8_192 + 7_000]) = (f64::NAN, f64::INFINITY)),
+            ("constants minus zero", |numbers| numbers[..8_192].fill(-0.0)),
+            ("constants four times", |numbers| numbers[..8_192].iter_mut().for_each(|x| *x *= 4.0)),
+            ("products turned", |numbers| numbers[8_192..].iter_mut().for_each(|x| *x = -*x)),
+        ];
+        for (name, change) in changes {
+            self.add(&format!("dense 8192 features {name}"), true, move || ones(false, 1, 8_192, 8_192).handed(change));
+            self.add(&format!("csc 8192 features {name}"), true, move || csc(300, 8_192, 3, 0.5, 0.1).handed(change));
+        }
+    }
 }
 
 /// All cases, in their order.
@@ -334,6 +369,7 @@ pub fn cases() -> Vec<Named> {
     cases.settings();
     cases.rooms();
     cases.contents();
+    cases.handed();
     cases.0
 }
 

@@ -1,6 +1,6 @@
 //! Replays stored answers of the oracle through the library's exports, bit for bit, and stored problem files through the program besides:
 //!   replay leaves LIST             records of the penalties' calls
-//!   replay runs LIST               records of whole fits and of working sets
+//!   replay runs LIST               records of preparations and solves, and of working sets
 //!   replay tiles LIST COMMAND..    problem files with what the program must print, on which the sign law is run too
 //! What differs is named, then everything is counted. The status is 1 where something promised differs, 2 where a list cannot be used.
 

@@ -1,6 +1,5 @@
-//! Problem files and listings, as the program reads and writes them, and the answer of the exports to a problem.
+//! Problem files and listings, as the program reads and writes them, and the answers of the exports to a problem.
 
-use crate::calls::fit;
 use crate::cases::{Case, Ending, Penalty, Settings};
 use crate::lent::Room;
 
@@ -46,7 +45,7 @@ pub fn read(file: &[u8]) -> Option<Case> {
     let (_, header, mut rest) = first_field(file)?;
     let (n, p, csc) = (count_at(header, 0)?, count_at(header, 4)?, *header.get(8)? == 1);
     let (targets, values, starts, rows) = Default::default();
-    let mut case = Case { csc, n, p, starts, rows, values, targets, settings: settings_of(header)?, lent: [0; 4] };
+    let mut case = Case { csc, n, p, starts, rows, values, targets, settings: settings_of(header)?, lent: [0; 5], change: None };
     while !rest.is_empty() {
         let (tag, body, after) = first_field(rest)?;
         match tag {
@@ -62,11 +61,21 @@ pub fn read(file: &[u8]) -> Option<Case> {
     Some(case)
 }
 
-/// What the exports answer; None where a lent buffer is not left as promised.
-pub fn answer(case: &Case) -> Option<Ending> {
+/// What the exports answer to a preparation and then a solve; None where a lent buffer is not left as promised.
+pub fn pair(case: &Case) -> Option<Ending> {
     let mut room = Room::new(case.lent.map(|length| length as usize));
-    let ending = fit(case, room.buffers());
-    room.left_as_promised(case, &ending).then_some(ending)
+    let ending = room.prepare(case).unwrap_or_else(|| room.solve(case));
+    room.left_as_promised().then_some(ending)
+}
+
+/// The same in the order of the program, which tests 1 and 2 before it prepares: a solve that is handed no number at all finds these first, and then,
+/// since a design has a feature at least, lacks room (3).
+pub fn as_program(case: &Case) -> Option<Ending> {
+    let mut room = Room::new(case.lent.map(|length| length as usize));
+    match room.solve_with(case, 0) {
+        Ending::Refused { number: 3, place: 0 } => room.left_as_promised().then(|| pair(case))?,
+        ending => room.left_as_promised().then_some(ending),
+    }
 }
 
 fn entries(name: &str, numbers: &[f64]) -> String {

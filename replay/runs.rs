@@ -1,19 +1,26 @@
-//! Records of whole fits (code 20) and of working sets (code 21); oracle/README.md has their form.
+//! Records of a preparation and then a solve (code 20), of a solve with handed numbers (code 22) and of working sets (code 21); oracle/README.md has
+//! their form.
 
 use crate::calls::working_set;
 use crate::cases::{Case, Ending, Penalty, Settings};
-use crate::lent::{GUARDS, INDEX_GUARD};
-use crate::problems::{answer, listing};
+use crate::lent::{same, Left, Room, GUARDS, INDEX_GUARD};
+use crate::problems::listing;
 use crate::records::{records, Words, Wrong};
 
 /// What became of a record.
 enum Verdict {
     Same,
     Differs,
-    /// A dense design with starts or rows: the call for dense designs takes none, so that it cannot be asked.
+    /// A dense design with starts or rows: the calls for dense designs take none, so that it cannot be asked.
     Unasked,
     /// No record: an unknown code or kind, or not the code's number of words.
     Bad,
+}
+
+impl Verdict {
+    fn of(same: bool) -> Verdict {
+        if same { Verdict::Same } else { Verdict::Differs }
+    }
 }
 
 /// A longer buffer is not lent: no list asks for one.
@@ -34,39 +41,78 @@ fn settings_of(words: &mut Words) -> Option<Settings> {
     })
 }
 
-/// The case of a record, its answers being left. The lengths of the lent buffers are the record's.
-fn case_of(words: &mut Words) -> Option<Case> {
+/// The case of a record with its room, whose lengths are the record's, and which holds the record's prepared numbers; the answers are left.
+fn case_of(words: &mut Words) -> Option<(Case, Room)> {
     let csc = [false, true].get(words.number::<usize>()?).copied()?;
     let (n, p) = (words.number()?, words.number()?);
     let (starts, rows) = (words.index_array()?, words.index_array()?);
     let (values, targets) = (words.double_array()?, words.double_array()?);
     let settings = settings_of(words)?;
-    let lent: [u32; 4] = words.indices(4)?.try_into().ok()?;
-    let case = Case { csc, n, p, starts, rows, values, targets, settings, lent };
-    lent.iter().all(|&length| length <= LONGEST).then_some(case)
+    let [w, fit, indices, scratch] = words.indices(4)?.try_into().ok()?;
+    let numbers = words.double_array()?;
+    let lent = [w, fit, indices, scratch, numbers.len() as u32];
+    if lent.iter().any(|&length| length > LONGEST) {
+        return None;
+    }
+    let mut room = Room::new(lent.map(|length| length as usize));
+    room.prepared().copy_from_slice(&numbers);
+    Some((Case { csc, n, p, starts, rows, values, targets, settings, lent, change: None }, room))
 }
 
-fn expected_of(words: &mut Words, case: &Case) -> Option<Ending> {
+/// What a solve must answer, and what it must leave.
+fn expected_of(words: &mut Words) -> Option<(Ending, Left)> {
     let (number, place) = (words.number()?, words.number()?);
-    if number != 0 {
-        return Some(Ending::Refused { number, place });
-    }
-    let status = words.number()?;
-    let violation = words.double()?;
-    let counts = [words.number()?, words.number()?, words.number()?];
-    let (weights, fit) = (words.doubles(case.p as usize)?, words.doubles(case.n as usize)?);
-    (place == 0).then_some(Ending::Fitted { status, violation, counts, weights, fit })
+    let report = match (number, place) {
+        (0, 0) => Some((words.number()?, words.double()?, [words.number()?, words.number()?, words.number()?])),
+        (0, _) => return None,
+        _ => None,
+    };
+    let left = Left { w: words.double_array()?, fit: words.double_array()?, indices: words.number()?, scratch: words.number()? };
+    let ending = match report {
+        Some((status, violation, counts)) => Ending::Fitted { status, violation, counts, weights: left.w.clone(), fit: left.fit.clone() },
+        None => Ending::Refused { number, place },
+    };
+    Some((ending, left))
 }
 
-fn fit_verdict(words: &mut Words) -> Option<Verdict> {
-    let case = case_of(words)?;
-    let expected = expected_of(words, &case)?;
+/// A dense design with starts or rows is refused with 1, wherever it can be asked.
+fn cannot_be_asked(case: &Case) -> bool {
+    !case.csc && !(case.starts.is_empty() && case.rows.is_empty())
+}
+
+/// Whether the solve answers so and leaves its buffers so, and those of the prepared numbers as they were.
+fn is_solved(case: &Case, room: &mut Room, (ending, left): &(Ending, Left)) -> bool {
+    let found = room.solve(case);
+    listing(&found) == listing(ending) && room.holds(left) && room.left_as_promised()
+}
+
+fn solve_verdict(words: &mut Words) -> Option<Verdict> {
+    let (case, mut room) = case_of(words)?;
+    let expected = expected_of(words)?;
     words.end()?;
-    if !case.csc && !(case.starts.is_empty() && case.rows.is_empty()) {
-        return matches!(expected, Ending::Refused { number: 1, place: 0 }).then_some(Verdict::Unasked);
+    if cannot_be_asked(&case) {
+        return matches!(expected.0, Ending::Refused { number: 1, place: 0 }).then_some(Verdict::Unasked);
     }
-    let same = answer(&case).is_some_and(|found| listing(&found) == listing(&expected));
-    Some(if same { Verdict::Same } else { Verdict::Differs })
+    Some(Verdict::of(is_solved(&case, &mut room, &expected)))
+}
+
+/// The preparation, and where it answers, the solve with the numbers that it left.
+fn pair_verdict(words: &mut Words) -> Option<Verdict> {
+    let (case, mut room) = case_of(words)?;
+    let (number, place): (u32, u64) = (words.number()?, words.number()?);
+    let prepared = words.doubles(room.prepared().len())?;
+    let solve = if number == 0 { Some(expected_of(words)?) } else { None };
+    words.end()?;
+    if cannot_be_asked(&case) {
+        return ((number, place) == (1, 0)).then_some(Verdict::Unasked);
+    }
+    let refusal = room.prepare(&case);
+    let found = match refusal {
+        Some(Ending::Refused { number, place }) => (number, place),
+        _ => (0, 0),
+    };
+    let alike = found == (number, place) && same(room.prepared(), &prepared) && room.left_as_promised();
+    Some(Verdict::of(alike && solve.is_none_or(|expected| is_solved(&case, &mut room, &expected))))
 }
 
 /// The index places hold what the record says before the call, and afterwards too; those behind stay.
@@ -89,11 +135,12 @@ fn set_verdict(words: &mut Words) -> Option<Verdict> {
     Some(if found == expected && places == left { Verdict::Same } else { Verdict::Differs })
 }
 
-/// How many records there were, how many of them were fits and working sets, could not be asked, and are wrong.
+/// How many records there were, how many of them were pairs, solves and working sets, could not be asked, and are wrong.
 #[derive(Default)]
 struct Counts {
     cases: usize,
-    fits: usize,
+    pairs: usize,
+    solves: usize,
     sets: usize,
     unasked: usize,
     wrong: Wrong,
@@ -104,12 +151,16 @@ fn count(counts: &mut Counts, number: usize, record: &str) {
     let mut words = Words::of(record);
     let verdict = match words.number::<u64>() {
         Some(0x20) => {
-            counts.fits += 1;
-            fit_verdict(&mut words)
+            counts.pairs += 1;
+            pair_verdict(&mut words)
         }
         Some(0x21) => {
             counts.sets += 1;
             set_verdict(&mut words)
+        }
+        Some(0x22) => {
+            counts.solves += 1;
+            solve_verdict(&mut words)
         }
         _ => None,
     };
@@ -128,9 +179,9 @@ pub fn replay(list: &[u8]) -> bool {
     for (number, record) in records(&text) {
         count(&mut counts, number, record);
     }
-    let Counts { cases, fits, sets, unasked, wrong } = counts;
+    let Counts { cases, pairs, solves, sets, unasked, wrong } = counts;
     let wrong = wrong.count();
     println!("{cases} cases, {wrong} differ");
-    println!("{fits} fits, {unasked} of them not asked: a dense design with starts or rows; {sets} working sets");
+    println!("{pairs} pairs, {solves} solves of handed numbers, {sets} working sets; {unasked} not asked: a dense design with starts or rows");
     wrong == 0 && cases > 0
 }

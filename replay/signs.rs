@@ -1,8 +1,8 @@
-//! The sign law, run through the exports: a problem is fitted as it is and with its targets, some of its columns or both turned, that is, with the
-//! other sign, and the answers are compared.
+//! The sign law, run through the exports: a problem is prepared and solved as it is and with its targets, some of its columns or both turned, that is,
+//! with the other sign, and the answers are compared.
 
 use crate::cases::{Case, Ending};
-use crate::problems::answer;
+use crate::problems::pair;
 
 /// A set of columns: it has column j where bit j is 1.
 type Set = u64;
@@ -80,9 +80,9 @@ fn outcome(plain: &Option<Ending>, other: &Option<Ending>, targets: bool, set: S
 
 impl Tallies {
     fn turn_as_it_is(&mut self, case: &Case, set: Set, first_kind: usize) {
-        let plain = answer(case);
+        let plain = pair(case);
         for (kind, (targets, set)) in [(true, 0), (false, set), (true, set)].into_iter().enumerate() {
-            let other = answer(&turned_case(case, targets, set));
+            let other = pair(&turned_case(case, targets, set));
             self.0[first_kind + kind][outcome(&plain, &other, targets, set)] += 1;
         }
     }

@@ -1,6 +1,6 @@
 //! Problem files with the text that the program must print for each; oracle/README.md has the list's form.
 
-use crate::problems::{answer, listing, read};
+use crate::problems::{as_program, listing, read};
 use crate::signs::Tallies;
 use crate::{fail, NAMED};
 use std::io::Write;
@@ -105,7 +105,7 @@ pub fn replay(list: &[u8], command: &[&str]) -> bool {
     for (at, tile) in tiles.iter().enumerate().filter(|(_, tile)| tile.is_problem()) {
         problems += 1;
         let case = read(&tile.file);
-        answered[at] = case.as_ref().and_then(answer).is_some_and(|found| listing(&found).as_bytes() == tile.text);
+        answered[at] = case.as_ref().and_then(as_program).is_some_and(|found| listing(&found).as_bytes() == tile.text);
         case.into_iter().for_each(|case| tallies.turn(case, at as u64));
     }
     let not_answered = named(&tiles, |at| !answered[at], "differs through the exports");

@@ -151,7 +151,7 @@ impl Settings {
 }
 
 /// No pivoting: zero pivots are passed over, and a zero on the final diagonal is singular.
-fn solve(mut a: Vec<Vec<f64>>) -> Option<Vec<f64>> {
+fn eliminate(mut a: Vec<Vec<f64>>) -> Option<Vec<f64>> {
     let k = a.len();
     // Row `row` loses its place `i`; the pass upward takes the whole row, the one downward what lies from the pivot on.
     let clear = |a: &mut Vec<Vec<f64>>, i: usize, row: usize, first: usize| {
@@ -176,11 +176,17 @@ fn solve(mut a: Vec<Vec<f64>>) -> Option<Vec<f64>> {
     (0..k).map(|i| if a[i][i] == 0.0 { None } else { Some(a[i][k] / a[i][i]) }).collect()
 }
 
+/// The constants and X'y, which serve every solve of a design and its targets.
+pub struct Prepared {
+    constants: Vec<f64>,
+    products: Vec<f64>,
+}
+
 struct Run<'a> {
     case: &'a Case,
     design: Columns<'a>,
-    constants: Vec<f64>,
-    products: Vec<f64>,
+    constants: &'a [f64],
+    products: &'a [f64],
     w: Vec<f64>,
     fit: Vec<f64>,
     epochs: u64,
@@ -238,7 +244,7 @@ impl Run<'_> {
         let differences: Vec<Vec<f64>> = (0..k).map(|r| (0..k).map(|c| kept[r + 1][c] - kept[r][c]).collect()).collect();
         let entry = |a: usize, b: usize| (0..k).fold(0.0, |s, r| s + differences[r][a] * differences[r][b]);
         let system = (0..k).map(|a| (0..k).map(|b| entry(a, b)).chain([1.0]).collect()).collect();
-        let Some(z) = solve(system) else { return };
+        let Some(z) = eliminate(system) else { return };
         let total = z.iter().fold(0.0, |s, x| s + x);
         let mut w = vec![0.0; self.w.len()];
         for (place, &j) in set.iter().enumerate() {
@@ -284,11 +290,20 @@ impl Run<'_> {
     }
 }
 
-pub fn fit(case: &Case) -> Ending {
+pub fn prepare(case: &Case) -> Prepared {
     let (n, p) = (case.n as usize, case.p as usize);
     let design = Columns::of(case);
-    let constants = design.all(p, None).into_iter().map(|s| s / n as f64).collect();
-    let products = design.all(p, Some(&case.targets));
+    Prepared { constants: design.all(p, None).into_iter().map(|s| s / n as f64).collect(), products: design.all(p, Some(&case.targets)) }
+}
+
+/// A whole fit by itself.
+pub fn fit(case: &Case) -> Ending {
+    solve(case, &prepare(case))
+}
+
+pub fn solve(case: &Case, Prepared { constants, products }: &Prepared) -> Ending {
+    let (n, p) = (case.n as usize, case.p as usize);
+    let design = Columns::of(case);
     let mut run = Run { case, design, constants, products, w: vec![0.0; p], fit: vec![0.0; n], epochs: 0, accepted: 0 };
     let s = &case.settings;
     let start = (s.start as usize).min(p);

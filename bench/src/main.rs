@@ -1,6 +1,7 @@
 //! Times the library's exports against other programs on the same inputs, in one run, and prints tables of ratios: our time over theirs. That all
 //! give the same bits is asserted, but for sklearn and glmnet (others.rs), of which the same tolerance is asked.
 
+mod alphas;
 #[path = "../../large/calls.rs"]
 mod calls;
 #[allow(dead_code)] // What the test program asks besides.
@@ -22,26 +23,39 @@ use calls::Buffers;
 use cases::{csc, dense, line, Case, Ending, Penalty};
 use timing::{time, Row, MICROSECONDS, MILLISECONDS};
 
-/// The buffers of a fit. Every one holds zeros before a call, of whichever program.
-struct Zeros {
+/// The buffers of a preparation and of its solves. Every one holds zeros before the first call, of whichever program.
+pub struct Zeros {
     w: Vec<f64>,
     fit: Vec<f64>,
     indices: Vec<u32>,
     scratch: Vec<f64>,
+    prepared: Vec<f64>,
 }
 
 impl Zeros {
-    fn of(case: &Case) -> Zeros {
-        let [w, fit, indices, scratch] = case.room().map(|length| length as usize);
-        Zeros { w: vec![0.0; w], fit: vec![0.0; fit], indices: vec![0; indices], scratch: vec![0.0; scratch] }
+    pub fn of(case: &Case) -> Zeros {
+        let [w, fit, indices, scratch, prepared] = case.room().map(|length| length as usize);
+        let zeros = |length| vec![0.0; length];
+        Zeros { w: zeros(w), fit: zeros(fit), indices: vec![0; indices], scratch: zeros(scratch), prepared: zeros(prepared) }
     }
 
-    fn lent(&mut self) -> Buffers<'_> {
-        Buffers { w: &mut self.w, fit: &mut self.fit, indices: &mut self.indices, scratch: &mut self.scratch }
+    pub fn prepare(&mut self, case: &Case) {
+        assert_eq!(calls::prepare(case, &mut self.prepared), None);
+    }
+
+    pub fn solve(&mut self, case: &Case) -> Ending {
+        let Zeros { w, fit, indices, scratch, prepared } = self;
+        calls::solve(case, prepared, Buffers { w, fit, indices, scratch })
+    }
+
+    /// A whole fit by itself: both calls.
+    pub fn pair(&mut self, case: &Case) -> Ending {
+        self.prepare(case);
+        self.solve(case)
     }
 }
 
-fn longer(case: Case) -> Case {
+pub fn longer(case: Case) -> Case {
     case.with(|s| (s.iterations, s.epochs, s.tolerance) = (50, 1_000, 1e-6))
 }
 
@@ -62,7 +76,7 @@ fn fits(name: &str, case: &Case, turns: usize, with_others: bool) {
     for _ in 0..turns {
         let mut zeros = Zeros::of(case);
         let mut ending = None;
-        ours = ours.min(time(|| ending = Some(calls::fit(case, zeros.lent()))));
+        ours = ours.min(time(|| ending = Some(zeros.pair(case))));
         let (weights, took) = steps::fit(case, &mut inputs);
         stepwise = stepwise.min(took.as_secs_f64());
         let mut other = None;
@@ -109,4 +123,7 @@ fn main() {
     family("tall 65,536 x 256", |share| dense(65_536, 256, 0.0, share), 3);
     fits("tall 65,536 x 256 as CSC, alpha 0.1", &as_csc(&longer(tall)), 3, false);
     family("CSC 20,000 x 5,000, 1 %", |share| csc(20_000, 5_000, 200, 0.5, share), 3);
+
+    MILLISECONDS.print_head("ten alphas, prepared once", &["ten fits of fast Rust", "fast Rust prepared once", "ten pairs of ours"]);
+    alphas::rows().for_each(|row| MILLISECONDS.print_row(&row));
 }

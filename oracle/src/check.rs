@@ -6,7 +6,8 @@ use crate::files::{bytes, fields, printed};
 use crate::leaves::{Kind, Penalty};
 use crate::random::Random;
 use crate::record::Variant;
-use crate::runs::{any, by_hand, named, FitCase, Outcome, Theme, LAYOUTS};
+use crate::runs::{any, any_handed, by_hand, handed_by_hand, named, FitCase, Numbers, Outcome};
+use crate::runs::{NotFinite, Prepared, SolveCase, Theme, LAYOUTS};
 use crate::{loops, published};
 
 fn same(what: &str, found: &[f64], expected: &[f64]) -> Result<(), String> {
@@ -61,7 +62,7 @@ fn check_designs<V: Designs>() -> Result<(), String> {
 }
 
 fn check_run<V: Runs>(case: &FitCase, counts: [u32; 3], point: [f64; 4]) -> Result<(), String> {
-    let Outcome::Finished(report) = V::run(case) else {
+    let Outcome::Finished(report) = V::run(case, Numbers::Own) else {
         return Err("check: a run is refused".into());
     };
     let found = [report.iterations, report.epochs, report.extrapolations];
@@ -117,19 +118,71 @@ fn check_file(variant: Variant) -> Result<(), String> {
     }
 }
 
-/// Runs built by hand, and drawn ones to which the Rust has an answer: our loops
-/// around its parts have the same.
-fn check_loops<V: Runs>() -> Result<(), String> {
+fn same_end(one: &Outcome, other: &Outcome, whose: &str) -> Result<(), String> {
+    if format!("{one:?}") == format!("{other:?}") {
+        return Ok(());
+    }
+    Err(format!("check: {one:?} but {other:?} {whose}"))
+}
+
+/// To a run which the Rust has an answer to, our loops around its parts have the
+/// same.
+fn check_loops<V: Runs>(case: &FitCase, numbers: Numbers) -> Result<(), String> {
+    match V::run(case, numbers) {
+        Outcome::ShortSet => Ok(()),
+        rust => same_end(&rust, &V::run_in_our_loops(case, numbers), "in our loops"),
+    }
+}
+
+/// Where a datafit is handed its own numbers, the run ends as that in which it
+/// computes them.
+fn check_handing<V: Designs + Runs>(case: &FitCase) -> Result<(), String> {
+    let own = Prepared::from(V::initialize(&case.design, &case.targets));
+    let (single, handed) = (
+        V::run(case, Numbers::Own),
+        V::run(case, Numbers::Handed(&own)),
+    );
+    same_end(&single, &handed, "with its own numbers handed to it")
+}
+
+/// Runs built by hand, and drawn ones.
+fn check_drawn<V: Designs + Runs>() -> Result<(), String> {
     let mut random = Random::new(1);
-    let drawn = (0..500).map(|_| {
+    let mut drawn = by_hand();
+    drawn.extend((0..500).map(|_| {
         let (theme, layout) = (Theme::drawn(&mut random), random.pick(&LAYOUTS));
         any(theme, layout, &mut random)
-    });
-    for case in by_hand().into_iter().chain(drawn) {
-        let (rust, ours) = (V::run(&case), V::run_in_our_loops(&case));
-        if !matches!(rust, Outcome::ShortSet) && format!("{rust:?}") != format!("{ours:?}") {
-            return Err(format!("check: {rust:?} but {ours:?} in our loops"));
-        }
+    }));
+    for case in &drawn {
+        check_loops::<V>(case, Numbers::Own)?;
+        check_handing::<V>(case)?;
+    }
+    let mut solves = handed_by_hand();
+    solves.extend((0..500).map(|_| any_handed(random.pick(&LAYOUTS), &mut random)));
+    for case in &solves {
+        check_loops::<V>(&case.0.fit, Numbers::Handed(&case.handed()))?;
+    }
+    Ok(())
+}
+
+/// The solves built by hand are what they are meant to be: a violation that is the
+/// first number which isn't finite, and a candidate of a smaller objective with an
+/// entry that isn't.
+fn check_by_hand<V: Runs>() -> Result<(), String> {
+    let run = |case: &SolveCase| V::run(&case.0.fit, Numbers::Handed(&case.handed()));
+    let runs: Vec<Outcome> = handed_by_hand().iter().map(run).collect();
+    let violations = |run: &&Outcome| run.is_refused_for(NotFinite::Violation);
+    let not_taken =
+        |run: &&Outcome| matches!(run, Outcome::Finished(report) if report.not_taken > 0);
+    // With a dense column of zeros the fit isn't finite either, nor the objective.
+    let counts = [
+        runs.iter().filter(violations).count(),
+        runs.iter().filter(not_taken).count(),
+    ];
+    if counts != [2, 1] {
+        return Err(format!(
+            "check: of the solves by hand {counts:?} are so, not [2, 1]"
+        ));
     }
     Ok(())
 }
@@ -141,8 +194,10 @@ pub fn check() -> Result<(), String> {
     check_designs::<published::Rust>()?;
     check_runs::<loops::Rust>()?;
     check_runs::<published::Rust>()?;
-    check_loops::<loops::Rust>()?;
-    check_loops::<published::Rust>()?;
+    check_drawn::<loops::Rust>()?;
+    check_drawn::<published::Rust>()?;
+    check_by_hand::<loops::Rust>()?;
+    check_by_hand::<published::Rust>()?;
     check_file(Variant::Loops)?;
     check_file(Variant::Published)?;
     println!("ok");

@@ -14,8 +14,8 @@ pub struct Recipe {
     pub shares: &'static [(u32, u64)],
     /// The code that takes what is left.
     pub last: u32,
-    /// How the cases are chosen, in lines.
-    pub how: &'static [&'static str],
+    /// How the cases are chosen, in lines that may come from several places.
+    pub how: &'static [&'static [&'static str]],
     /// Makes so many cases of one code.
     pub part: fn(u32, usize, &mut Random) -> Part,
     /// What the header says at its end.
@@ -57,7 +57,7 @@ pub fn refusals(records: &[Record]) -> String {
         records.iter().filter(with).count()
     };
     let mut told = format!("{} answered", count(0));
-    for number in 1..=8 {
+    for number in 1..=10 {
         match count(number) {
             0 => {}
             refused => told += &format!(", {refused} refused with {number}"),
@@ -88,7 +88,8 @@ impl Recipe {
             ),
             format!("seed {seed}, count {count}"),
         ];
-        lines.extend(self.how.iter().map(|line| line.to_string()));
+        let how = self.how.iter().copied().flatten();
+        lines.extend(how.map(|line| line.to_string()));
         lines.extend(parts.iter().flat_map(Part::told));
         let differing: usize = parts.iter().map(Part::differing).sum();
         lines.push(format!(

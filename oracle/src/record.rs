@@ -2,7 +2,7 @@
 
 use crate::designs::DesignCase;
 use crate::leaves::Leaf;
-use crate::runs::{FitCase, SetCase};
+use crate::runs::{PairCase, SetCase, SolveCase};
 use crate::words::{line, Reader, Word};
 use std::io::{self, Write};
 
@@ -36,7 +36,8 @@ pub fn read_case(text: &str) -> Result<Box<dyn Case>, String> {
     let case: Box<dyn Case> = match reader.count()? {
         code @ 1..=7 => Box::new(Leaf::read(code, &mut reader)?),
         code @ 0x10..=0x17 => Box::new(DesignCase::read(code, &mut reader)?),
-        FitCase::CODE => Box::new(FitCase::read(&mut reader)?),
+        PairCase::CODE => Box::new(PairCase::read(&mut reader)?),
+        SolveCase::CODE => Box::new(SolveCase::read(&mut reader)?),
         SetCase::CODE => Box::new(SetCase::read(&mut reader)?),
         code => return Err(format!("code {code:x} is unknown")),
     };

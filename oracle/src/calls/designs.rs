@@ -87,7 +87,7 @@ where
 /// the diagonal, with X'y as its targets, and 0 + 1·x is x. Only -0.0 becomes
 /// +0.0, which no gradient shows: there X'y is taken from a sum that starts at
 /// +0.0 and so never is -0.0. Gradients don't look at the constants.
-fn datafit_with(products: &[f64]) -> Quadratic<F> {
+pub fn datafit_with(products: &[f64]) -> Quadratic<F> {
     let features = products.len() as u32;
     let starts = (0..=features).collect();
     let rows = (0..features).collect();

@@ -4,7 +4,7 @@
 
 use crate::designs::Design;
 use crate::leaves::Penalty;
-use crate::runs::{FitCase, Outcome};
+use crate::runs::{FitCase, Numbers, Outcome};
 
 /// Soft threshold, elimination and penalties.
 pub trait Leaves {
@@ -37,14 +37,15 @@ pub trait Designs {
 
 /// Whole runs and the working set. What is asked here is refused with 7 at most.
 pub trait Runs {
-    fn run(case: &FitCase) -> Outcome;
+    fn run(case: &FitCase, numbers: Numbers) -> Outcome;
 
-    /// As `run`, but the step is skipped where the Rust stops at a working set
-    /// that is too small for it, and a run of more than so much work is given up.
+    /// As `run` with the datafit's own numbers, but the step is skipped where the
+    /// Rust stops at a working set that is too small for it, and a run of more
+    /// than so much work is given up.
     fn run_skipping(case: &FitCase, work: u64) -> Outcome;
 
     /// In the loops that skip, whether the Rust would stop or not.
-    fn run_in_our_loops(case: &FitCase) -> Outcome;
+    fn run_in_our_loops(case: &FitCase, numbers: Numbers) -> Outcome;
 
     /// The features in the set, in its order.
     fn working_set(weights: &[f64], violations: &[f64], start: usize) -> Vec<u32>;

@@ -2,7 +2,7 @@
 //! design, datafit and penalty are wrapped: what is asked of a wrapper is asked
 //! of the Rust's own, and the watch is told.
 
-use super::designs::{by_layout, products};
+use super::designs::{by_layout, datafit_with, products};
 use super::glm::datafits::single_task::{Datafit, Quadratic};
 use super::glm::datasets::{DatasetBase, DesignMatrix, DesignMatrixType};
 use super::glm::penalties::separable::Penalty;
@@ -12,7 +12,7 @@ use super::numbers::{array, doubles};
 use super::skipping::descend;
 use super::{Rust, F};
 use crate::calls::Runs;
-use crate::runs::{outcome, FitCase, Outcome, Watch};
+use crate::runs::{outcome, FitCase, Numbers, Outcome, Settings, Watch};
 use ndarray::{Array1, Array2, ArrayView1};
 
 const ONE_TASK: &str = "a run of one task asks nothing about several";
@@ -65,9 +65,54 @@ impl<DM: DesignMatrix<Elem = F>> DesignMatrix for WatchedDesign<'_, DM> {
     }
 }
 
+/// The Rust's datafit, with its own numbers or with handed ones. It keeps its
+/// constants to itself, so handed ones stand beside it.
+struct NumberedDatafit {
+    datafit: Quadratic<F>,
+    handed: Option<Array1<F>>,
+}
+
+impl NumberedDatafit {
+    /// A datafit that is handed X'y holds it from the beginning.
+    fn with(numbers: Numbers) -> NumberedDatafit {
+        match numbers {
+            Numbers::Own => NumberedDatafit {
+                datafit: Quadratic::new(),
+                handed: None,
+            },
+            Numbers::Handed(prepared) => NumberedDatafit {
+                datafit: datafit_with(&prepared.products),
+                handed: Some(array(&prepared.constants)),
+            },
+        }
+    }
+
+    /// Handed numbers take the place of those that the datafit would compute.
+    fn initialize<DM>(&mut self, dataset: &DatasetBase<DM, Array1<F>>)
+    where
+        DM: DesignMatrix<Elem = F>,
+        Quadratic<F>: Datafit<F, DM, Array1<F>>,
+    {
+        if self.handed.is_none() {
+            self.datafit.initialize(dataset);
+        }
+    }
+
+    fn step_size<DM>(&self) -> ArrayView1<'_, F>
+    where
+        DM: DesignMatrix<Elem = F>,
+        Quadratic<F>: Datafit<F, DM, Array1<F>>,
+    {
+        match &self.handed {
+            Some(constants) => constants.view(),
+            None => self.datafit.step_size(),
+        }
+    }
+}
+
 /// Asks the Rust's datafit about the design that is not wrapped.
 struct WatchedDatafit<'a, DM: DesignMatrix> {
-    datafit: Quadratic<F>,
+    numbered: NumberedDatafit,
     dataset: &'a DatasetBase<DM, Array1<F>>,
     watch: &'a Watch,
 }
@@ -80,19 +125,21 @@ where
     Quadratic<F>: Datafit<F, DM, Array1<F>>,
 {
     fn initialize(&mut self, _: &WatchedDataset<'a, DM>) {
-        self.datafit.initialize(self.dataset);
-        let constants = doubles(self.datafit.step_size());
-        self.watch.initialized(&constants, &products(&self.datafit));
+        self.numbered.initialize(self.dataset);
+        let constants = doubles(self.numbered.step_size::<DM>());
+        let products = products(&self.numbered.datafit);
+        self.watch.initialized(constants, products);
     }
 
     fn value(&self, _: &WatchedDataset<'a, DM>, fit: ArrayView1<F>) -> F {
-        let value = self.datafit.value(self.dataset, fit);
-        self.watch.datafit(&doubles(fit), value.into());
-        value
+        let value = self.numbered.datafit.value(self.dataset, fit);
+        let told = self.watch.datafit(&doubles(fit), value.into());
+        F::from(told)
     }
 
     fn gradient_j(&self, _: &WatchedDataset<'a, DM>, fit: ArrayView1<F>, feature: usize) -> F {
-        let gradient = self.datafit.gradient_j(self.dataset, fit, feature);
+        let datafit = &self.numbered.datafit;
+        let gradient = datafit.gradient_j(self.dataset, fit, feature);
         self.watch.gradient(feature, &doubles(fit), gradient.into());
         gradient
     }
@@ -103,7 +150,7 @@ where
 
     fn step_size(&self) -> ArrayView1<'_, F> {
         self.watch.epoch();
-        self.datafit.step_size()
+        self.numbered.step_size::<DM>()
     }
 }
 
@@ -138,36 +185,30 @@ impl Penalty<F> for WatchedPenalty<'_> {
     }
 }
 
-/// The weights that the Rust gives back, or those of its parts in our loops.
-fn watched_run<DM>(design: DM, case: &FitCase, watch: &Watch, skips: bool) -> Vec<f64>
+/// Whose loops are run.
+#[derive(Clone, Copy)]
+enum Loops {
+    TheRusts,
+    Ours,
+}
+
+/// The Rust's, with what our own are given.
+fn coordinate_descent_of<DM, DF, P>(
+    dataset: &DatasetBase<DM, Array1<F>>,
+    datafit: &mut DF,
+    penalty: &P,
+    settings: &Settings,
+    depth: Option<usize>,
+) -> Array1<F>
 where
     DM: DesignMatrix<Elem = F>,
-    Quadratic<F>: Datafit<F, DM, Array1<F>>,
+    DF: Datafit<F, DM, Array1<F>>,
+    P: Penalty<F>,
 {
-    let (settings, depth) = (&case.settings, case.depth_in_use());
-    let dataset = DatasetBase::new(design, array(&case.targets));
-    let design = WatchedDesign {
-        design: dataset.design_matrix(),
-        watch,
-    };
-    let mut datafit = WatchedDatafit {
-        datafit: Quadratic::new(),
-        dataset: &dataset,
-        watch,
-    };
-    let penalty = WatchedPenalty {
-        penalty: build(&settings.penalty),
-        watch,
-    };
-    let watched = DatasetBase::new(design, array(&case.targets));
-    if skips {
-        let weights = descend(&watched, &mut datafit, &penalty, settings, depth);
-        return doubles(weights.view());
-    }
-    let weights = coordinate_descent(
-        &watched,
-        &mut datafit,
-        &penalty,
+    coordinate_descent(
+        dataset,
+        datafit,
+        penalty,
         settings.start as usize,
         // The last check is the first step of one iteration more.
         settings.iterations as usize + 1,
@@ -177,32 +218,66 @@ where
         depth.unwrap_or(1),
         depth.is_some(),
         false,
-    );
-    doubles(weights.view())
+    )
 }
 
-fn watched_outcome(case: &FitCase, work: u64, skips: bool) -> Outcome {
+/// The weights that the Rust gives back, or those of its parts in our loops.
+fn watched_run<DM>(
+    design: DM,
+    case: &FitCase,
+    numbers: Numbers,
+    watch: &Watch,
+    loops: Loops,
+) -> Vec<f64>
+where
+    DM: DesignMatrix<Elem = F>,
+    Quadratic<F>: Datafit<F, DM, Array1<F>>,
+{
+    let dataset = DatasetBase::new(design, array(&case.targets));
+    let design = WatchedDesign {
+        design: dataset.design_matrix(),
+        watch,
+    };
+    let mut datafit = WatchedDatafit {
+        numbered: NumberedDatafit::with(numbers),
+        dataset: &dataset,
+        watch,
+    };
+    let penalty = WatchedPenalty {
+        penalty: build(&case.settings.penalty),
+        watch,
+    };
+    let watched = DatasetBase::new(design, array(&case.targets));
+    let run = match loops {
+        Loops::TheRusts => coordinate_descent_of,
+        Loops::Ours => descend,
+    };
+    let (settings, depth) = (&case.settings, case.depth_in_use());
+    doubles(run(&watched, &mut datafit, &penalty, settings, depth).view())
+}
+
+fn watched_outcome(case: &FitCase, numbers: Numbers, work: u64, loops: Loops) -> Outcome {
     outcome(
         case,
         work,
-        |watch| by_layout!(&case.design, x => watched_run(x, case, watch, skips)),
+        |watch| by_layout!(&case.design, x => watched_run(x, case, numbers, watch, loops)),
     )
 }
 
 impl Runs for Rust {
-    fn run(case: &FitCase) -> Outcome {
-        watched_outcome(case, u64::MAX, false)
+    fn run(case: &FitCase, numbers: Numbers) -> Outcome {
+        watched_outcome(case, numbers, u64::MAX, Loops::TheRusts)
     }
 
     fn run_skipping(case: &FitCase, work: u64) -> Outcome {
-        match watched_outcome(case, work, false) {
-            Outcome::ShortSet => watched_outcome(case, work, true),
+        match watched_outcome(case, Numbers::Own, work, Loops::TheRusts) {
+            Outcome::ShortSet => watched_outcome(case, Numbers::Own, work, Loops::Ours),
             other => other,
         }
     }
 
-    fn run_in_our_loops(case: &FitCase) -> Outcome {
-        watched_outcome(case, u64::MAX, true)
+    fn run_in_our_loops(case: &FitCase, numbers: Numbers) -> Outcome {
+        watched_outcome(case, numbers, u64::MAX, Loops::Ours)
     }
 
     fn working_set(weights: &[f64], violations: &[f64], start: usize) -> Vec<u32> {

@@ -5,7 +5,7 @@ use super::layout::{self, MOST_FEATURES, MOST_SAMPLES};
 use super::sound::{any, file, File};
 use crate::designs::Layout;
 use crate::random::Random;
-use crate::runs::{self, FitCase};
+use crate::runs::{self, Asked, FitCase};
 
 /// Whether a file can say this, and the program's sizes allow it.
 fn fits(case: &FitCase) -> bool {
@@ -70,11 +70,11 @@ fn spoiled_file(case: FitCase) -> File {
 
 /// One fault that is refused with this number.
 pub fn fault(number: u32, random: &mut Random) -> File {
-    let mut faults = runs::faults();
+    let mut faults = runs::problem_faults();
     faults.retain(|fault| fault.number() == number);
     let draw = |random: &mut Random| {
         let fault = random.pick(&faults);
-        runs::spoiled(fault, random)
+        Asked::Program.spoiled(fault, random).fit
     };
     let case = spoiled(draw, random);
     assert_eq!(case.refusal().map(|(found, _)| found), Some(number));
@@ -82,17 +82,17 @@ pub fn fault(number: u32, random: &mut Random) -> File {
 }
 
 pub fn two_faults(random: &mut Random) -> File {
-    let faults = runs::faults();
-    let draw = |random: &mut Random| runs::twice_spoiled(&faults, random);
+    let faults = runs::problem_faults();
+    let draw = |random: &mut Random| Asked::Program.twice_spoiled(&faults, random).fit;
     spoiled_file(spoiled(draw, random))
 }
 
 /// A fault of each of these kinds.
 fn faults_as(wanted: &[[runs::Wanted; 2]], random: &mut Random) -> File {
-    let faults = runs::faults();
+    let faults = runs::problem_faults();
     let draw = |random: &mut Random| {
         let wanted = random.pick(wanted);
-        runs::spoiled_as(wanted, &faults, random)
+        Asked::Program.spoiled_as(wanted, &faults, random).fit
     };
     spoiled_file(spoiled(draw, random))
 }
@@ -108,11 +108,11 @@ pub fn setting_beside(random: &mut Random) -> File {
 
 /// Fields of a file whose contents are refused.
 pub fn spoiled_fields(layout: Layout, random: &mut Random) -> Vec<Field> {
-    let faults = runs::faults();
+    let faults = runs::problem_faults();
     loop {
         let draw = |random: &mut Random| {
             let fault = random.pick(&faults);
-            runs::spoiled(fault, random)
+            Asked::Program.spoiled(fault, random).fit
         };
         let case = spoiled(draw, random);
         if case.design.layout == layout {

@@ -5,7 +5,6 @@ use super::layout;
 use crate::designs::Layout;
 use crate::leaves::Kind;
 use crate::random::Random;
-use crate::record::Case;
 use crate::runs::{self, FitCase, NotFinite, Theme, LAYOUTS};
 
 pub type File = Vec<u8>;
@@ -18,7 +17,7 @@ pub fn written(case: &FitCase, fields: &[Field]) -> File {
     let mut case = case.clone();
     case.lent = read.lent;
     case.settings.depth = case.settings.depth.min(255);
-    assert!(case.inputs() == read.inputs(), "{case:?} became {read:?}");
+    assert!(case.words() == read.words(), "{case:?} became {read:?}");
     file
 }
 

@@ -1,11 +1,12 @@
-//! Made runs in which nothing is refused with 1 to 6; `faults` spoils some.
+//! Made problems with settings, and pairs of calls on them, in which nothing is
+//! refused with 1 to 6; `faults` spoils some. Solves with numbers of another kind are
+//! made in `handed`.
 
 use super::corners::LAYOUTS;
-use super::outcome::Outcome;
 use super::problems::{problem, Theme, STRAINED};
 use super::rules::DEPTHS;
 use super::watch::NotFinite;
-use super::{FitCase, Lent, Settings};
+use super::{FitCase, Given, Lent, Numbers, PairCase, Prepared, Settings};
 use crate::calls::{Designs, Runs};
 use crate::designs::{Design, Layout};
 use crate::leaves::{Kind, Penalty};
@@ -13,7 +14,7 @@ use crate::loops;
 use crate::random::Random;
 
 /// What the settings are measured by.
-struct Scale {
+pub struct Scale {
     theme: Theme,
     features: u32,
     /// alpha_max, or 1 where it is no use.
@@ -24,17 +25,33 @@ struct Scale {
 
 impl Scale {
     fn of(theme: Theme, design: &Design, targets: &[f64], random: &mut Random) -> Scale {
-        let useful = |x: &f64| x.is_finite() && *x > 0.0;
         let most = loops::Rust::alpha_max(design, targets);
         let (constants, _) = loops::Rust::initialize(design, targets);
-        let constants: Vec<f64> = constants.into_iter().filter(useful).collect();
+        Scale::by(theme, most, &constants, random)
+    }
+
+    /// Of numbers that are handed to a solve of so many samples.
+    pub fn of_handed(
+        theme: Theme,
+        samples: u32,
+        prepared: &Prepared,
+        random: &mut Random,
+    ) -> Scale {
+        let sizes = prepared.products.iter().map(|product| product.abs());
+        let most = sizes.fold(0.0, f64::max) / f64::from(samples);
+        Scale::by(theme, most, &prepared.constants, random)
+    }
+
+    fn by(theme: Theme, most: f64, constants: &[f64], random: &mut Random) -> Scale {
+        let useful = |x: &f64| x.is_finite() && *x > 0.0;
+        let nonzero: Vec<f64> = constants.iter().copied().filter(useful).collect();
         Scale {
             theme,
-            features: design.features,
+            features: constants.len() as u32,
             most: Some(most).filter(useful).unwrap_or(1.0),
-            constant: match constants.len() {
+            constant: match nonzero.len() {
                 0 => 1.0,
-                count => constants[random.below(count)],
+                count => nonzero[random.below(count)],
             },
         }
     }
@@ -165,6 +182,15 @@ impl Scale {
         }
     }
 
+    /// Now and then at the ends of their ranges.
+    pub fn any_settings(&self, random: &mut Random) -> Settings {
+        if random.chance(3) {
+            self.limits(random)
+        } else {
+            self.settings(random)
+        }
+    }
+
     /// Settings at the ends of their ranges, in runs that end at once: no
     /// violation exceeds the largest tolerance or, but for L1PlusL2, the largest
     /// alpha.
@@ -185,9 +211,13 @@ impl Scale {
     }
 }
 
-/// Half of the buffers are exactly as long as they must be.
-fn lent(room: Lent, random: &mut Random) -> Lent {
-    let mut length = |room: u32| room + random.pick(&[0, 0, 0, 1, 2, 3]);
+/// So many places a lent buffer has beyond its room: half of them none.
+fn longer(random: &mut Random) -> u32 {
+    random.pick(&[0, 0, 0, 1, 2, 3])
+}
+
+pub fn lent(room: Lent, random: &mut Random) -> Lent {
+    let mut length = |room: u32| room + longer(random);
     Lent {
         weights: length(room.weights),
         fit: length(room.fit),
@@ -208,12 +238,7 @@ pub fn with_settings(
     targets: Vec<f64>,
     random: &mut Random,
 ) -> FitCase {
-    let scale = Scale::of(theme, &design, &targets, random);
-    let mut settings = if random.chance(3) {
-        scale.limits(random)
-    } else {
-        scale.settings(random)
-    };
+    let mut settings = Scale::of(theme, &design, &targets, random).any_settings(random);
     if random.chance(1) {
         // As many iterations as there may be, of hardly anything.
         (settings.iterations, settings.epochs) = (1_000, random.below(3) as u32);
@@ -229,8 +254,30 @@ pub fn with_settings(
     case
 }
 
-/// To be spoiled: now and then there is something to refuse already, which comes
-/// after every other refusal.
+/// What a lent buffer holds that is overwritten, or that lies beyond its room: any
+/// double.
+fn anything(random: &mut Random) -> f64 {
+    match random.below(3) {
+        0 => random.special(),
+        1 => random.any_bits(),
+        _ => random.moderate(),
+    }
+}
+
+/// Places behind the room of the prepared numbers.
+pub fn beyond(random: &mut Random) -> Vec<f64> {
+    (0..longer(random)).map(|_| anything(random)).collect()
+}
+
+/// A problem with the buffer that a preparation gets, which holds anything.
+pub fn with_buffer(fit: FitCase, random: &mut Random) -> Given {
+    let room = 2 * fit.design.features;
+    let mut prepared: Vec<f64> = (0..room).map(|_| anything(random)).collect();
+    prepared.extend(beyond(random));
+    Given { fit, prepared }
+}
+
+/// To be spoiled: now and then there is something to refuse already, with 7.
 pub fn to_be_spoiled(layout: Layout, random: &mut Random) -> FitCase {
     let theme = if random.chance(20) {
         random.pick(&STRAINED)
@@ -240,26 +287,25 @@ pub fn to_be_spoiled(layout: Layout, random: &mut Random) -> FitCase {
     any(theme, layout, random)
 }
 
-/// A run that the Rust has an answer to; `redrawn` counts those that it hasn't.
-pub fn sound(redrawn: &mut usize, random: &mut Random) -> FitCase {
+/// A pair that the Rust has an answer to; `redrawn` counts those that it hasn't.
+pub fn sound(redrawn: &mut usize, random: &mut Random) -> PairCase {
     loop {
         let (theme, layout) = (Theme::drawn(random), random.pick(&LAYOUTS));
         let case = any(theme, layout, random);
         if case.comparable() {
-            return case;
+            return PairCase(with_buffer(case, random));
         }
         *redrawn += 1;
     }
 }
 
-/// A run that accepts an extrapolation, each depth being as likely as the others.
-/// Few runs do, since the Rust takes its system from the wrong side, which
-/// document 01 keeps.
-pub fn extrapolated(random: &mut Random) -> FitCase {
-    let wanted = 1 + random.below(*DEPTHS.end() as usize);
-    extrapolated_from(wanted, random)
+/// Each depth is as likely as the others.
+pub fn any_depth(random: &mut Random) -> usize {
+    1 + random.below(*DEPTHS.end() as usize)
 }
 
+/// A run that accepts an extrapolation. Few runs do, since the Rust takes its system
+/// from the wrong side, which document 01 keeps.
 pub fn extrapolated_from(wanted: usize, random: &mut Random) -> FitCase {
     loop {
         let (theme, layout) = (Theme::drawn(random), random.pick(&LAYOUTS));
@@ -267,9 +313,8 @@ pub fn extrapolated_from(wanted: usize, random: &mut Random) -> FitCase {
         if case.depth_in_use() != Some(wanted) {
             continue;
         }
-        let run = loops::Rust::run(&case);
-        let accepts = matches!(run, Outcome::Finished(report) if report.extrapolations > 0);
-        if accepts && case.comparable() {
+        let run = loops::Rust::run(&case, Numbers::Own);
+        if run.accepts() && case.comparable() {
             return case;
         }
     }
@@ -295,8 +340,8 @@ pub fn not_finite(number: NotFinite, random: &mut Random) -> Option<FitCase> {
     loop {
         let layout = random.pick(&LAYOUTS);
         let case = any(theme, layout, random);
-        let found = matches!(loops::Rust::run(&case), Outcome::NotFinite(found) if found == number);
-        if found && case.comparable() {
+        let run = loops::Rust::run(&case, Numbers::Own);
+        if run.is_refused_for(number) && case.comparable() {
             return Some(case);
         }
     }

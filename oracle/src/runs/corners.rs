@@ -2,7 +2,7 @@
 //! draw hardly ever meets.
 
 use super::problems::of_columns;
-use super::{FitCase, Lent, Settings};
+use super::{FitCase, Given, Lent, Settings, SolveCase};
 use crate::designs::Layout;
 use crate::leaves::{Kind, Penalty};
 
@@ -14,6 +14,7 @@ struct Corner {
     targets: Vec<f64>,
     kind: Kind,
     alpha: f64,
+    second: f64,
     start: u32,
     iterations: u32,
     epochs: u32,
@@ -25,7 +26,7 @@ impl Corner {
         let penalty = Penalty {
             kind: self.kind,
             alpha: self.alpha,
-            second: 0.0,
+            second: self.second,
         };
         let mut case = FitCase {
             design: of_columns(&self.columns, layout, || false),
@@ -44,6 +45,14 @@ impl Corner {
         case.lent = case.room();
         case
     }
+
+    /// A solve with these constants and this X'y.
+    fn handed(&self, constants: &[f64], products: &[f64], layout: Layout) -> SolveCase {
+        SolveCase(Given {
+            fit: self.case(layout),
+            prepared: [constants, products].concat(),
+        })
+    }
 }
 
 /// Document 01's case: 2 on the diagonal, L1, start 1, 5 iterations, 20 epochs.
@@ -53,6 +62,7 @@ fn diagonal(targets: [f64; 2], alpha: f64, extrapolate: bool) -> Corner {
         targets: targets.to_vec(),
         kind: Kind::L1,
         alpha,
+        second: 0.0,
         start: 1,
         iterations: 5,
         epochs: 20,
@@ -78,6 +88,7 @@ fn not_below_three_tenths() -> Corner {
         targets: vec![f64::from_bits(1)],
         kind: Kind::L1,
         alpha: 0.0,
+        second: 0.0,
         start: 1,
         iterations: 1,
         epochs: 20,
@@ -98,6 +109,7 @@ fn hidden_gradient(kind: Kind) -> Corner {
         targets: [0.22, 0.18, 0.5].map(|part| part * f64::MAX).to_vec(),
         kind,
         alpha: 0.0,
+        second: 0.0,
         start: 3,
         iterations: 1,
         epochs: 1,
@@ -117,6 +129,7 @@ fn erased_sign() -> Corner {
         targets: vec![-64.0, -192.0],
         kind: Kind::L1PlusL2,
         alpha: 64.0,
+        second: 0.0,
         start: 2,
         iterations: 2,
         epochs: 3,
@@ -131,11 +144,30 @@ fn sum_of_negative_zero() -> Corner {
         targets: vec![-59.0, 0.0],
         kind: Kind::L1,
         alpha: 1.0,
+        second: 0.0,
         start: 1,
         iterations: 1,
         epochs: 2,
         depth: 1,
     }
+}
+
+/// The same with the first column alone in the working set: the second one's NaN is
+/// found by the check of all features, where its violation would be +0.
+fn hidden_in_check(kind: Kind) -> Corner {
+    Corner {
+        // MCP's gamma is above 0.
+        second: 1.0,
+        start: 1,
+        ..hidden_gradient(kind)
+    }
+}
+
+/// Further ones, from which no file is drawn: the lists of files stay as they are.
+pub fn further_by_hand() -> Vec<FitCase> {
+    let kinds = [Kind::L1, Kind::L1PlusL2, Kind::Mcp];
+    let case = |layout| kinds.map(|kind| hidden_in_check(kind).case(layout));
+    LAYOUTS.map(case).concat()
 }
 
 /// All of them, in both layouts.
@@ -152,6 +184,69 @@ pub fn by_hand() -> Vec<FitCase> {
         cases.extend(named(layout, false));
         cases.extend(named(layout, true));
         cases.extend(corners.iter().map(|corner| corner.case(layout)));
+    }
+    cases
+}
+
+/// Constants that are too small let the second column swing past its end. The first
+/// one, whose constant is large, was pushed one way before that and finds its
+/// gradient near the largest double on the other: its violation is infinite, and no
+/// number before it.
+fn infinite_violation(layout: Layout) -> SolveCase {
+    let corner = Corner {
+        columns: vec![vec![4.85], vec![1.0]],
+        targets: vec![0.0],
+        kind: Kind::L1,
+        alpha: 0.05 * f64::MAX,
+        second: 0.0,
+        start: 2,
+        iterations: 2,
+        epochs: 1,
+        depth: 0,
+    };
+    corner.handed(&[1e10, 0.1], &[0.0, -0.065 * f64::MAX], layout)
+}
+
+/// A column of zeros with a constant that isn't: the system's one entry is the
+/// smallest double, so its solution is infinite and the candidate NaN. MCP has the
+/// flat piece there, and the value of the weight, which lies before it, is larger by
+/// rounding. No stored entry brings the NaN into the fit, so the Rust takes it.
+fn smaller_but_not_finite(layout: Layout) -> SolveCase {
+    let alpha = 2f64.powi(-538);
+    let corner = Corner {
+        columns: vec![vec![0.0]],
+        targets: vec![0.0],
+        kind: Kind::Mcp,
+        alpha,
+        second: 4.0,
+        start: 1,
+        iterations: 1,
+        epochs: 2,
+        depth: 1,
+    };
+    corner.handed(&[1.0], &[2.0 * alpha], layout)
+}
+
+/// Document 01's case with its own numbers, with constants that let no column move,
+/// that let it swing for ever and that let it crawl, and with X'y of other targets.
+fn diagonals(layout: Layout) -> [SolveCase; 5] {
+    let corner = diagonal([3.0, 1.0], 1.0, false);
+    [
+        ([2.0, 2.0], [6.0, 2.0]),
+        ([0.0, -0.0], [6.0, 2.0]),
+        ([1.0, 1.0], [6.0, 2.0]),
+        ([32.0, 32.0], [6.0, 2.0]),
+        ([2.0, 2.0], [-0.0, 10.0]),
+    ]
+    .map(|(constants, products)| corner.handed(&constants, &products, layout))
+}
+
+/// Solves with handed numbers, in both layouts.
+pub fn handed_by_hand() -> Vec<SolveCase> {
+    let mut cases = Vec::new();
+    for layout in LAYOUTS {
+        cases.extend(diagonals(layout));
+        cases.extend([infinite_violation(layout), smaller_but_not_finite(layout)]);
     }
     cases
 }

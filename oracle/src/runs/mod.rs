@@ -1,23 +1,31 @@
-//! Whole runs of the coordinate descent, and the working set by itself. This
-//! file holds their cases as records have them; `rules` holds document 01's
-//! refusals, `watch` what is seen of a run, `outcome` how a run ends.
+//! Preparations and solves, which make up a run of the coordinate descent, and the
+//! working set by itself. This file holds their cases as records have them; `rules`
+//! holds the documents' refusals, `watch` what is seen of a run, `outcome` how a
+//! run ends.
 
 mod answers;
 mod cases;
 mod corners;
 mod faults;
+mod handed;
 mod list;
+mod made;
 mod outcome;
+mod pairs;
+mod prepared;
 mod problems;
 mod rules;
 mod sets;
+mod solves;
 mod watch;
 
 pub use cases::{any, extrapolated_from, not_finite, with_settings};
-pub use corners::{by_hand, named, LAYOUTS};
-pub use faults::{faults, setting_pairs, settings_beside, spoiled, spoiled_as, twice_spoiled, Wanted};
-pub use list::LIST;
+pub use corners::{by_hand, handed_by_hand, named, LAYOUTS};
+pub use faults::{problem_faults, setting_pairs, settings_beside, Asked, Wanted};
+pub use handed::any as any_handed;
+pub use list::{HANDED, LIST, PAIRS};
 pub use outcome::{outcome, Outcome};
+pub use prepared::{Numbers, Prepared};
 pub use problems::{of_columns, repeated, targets, varied, Theme};
 pub use watch::{NotFinite, Report, Watch};
 
@@ -37,7 +45,7 @@ pub struct Settings {
     pub depth: u32,
 }
 
-/// The lengths of the lent buffers; what they hold makes no difference to a fit.
+/// The lengths of the lent buffers; what they hold makes no difference to a solve.
 #[derive(Clone, Copy, Debug, Default)]
 pub struct Lent {
     pub weights: u32,
@@ -46,7 +54,8 @@ pub struct Lent {
     pub scratch: u32,
 }
 
-/// A whole run.
+/// A problem with its settings and the room for its answer: what the program
+/// fits.
 #[derive(Clone, Debug)]
 pub struct FitCase {
     pub design: Design,
@@ -54,6 +63,23 @@ pub struct FitCase {
     pub settings: Settings,
     pub lent: Lent,
 }
+
+/// What a preparation and a solve are given together.
+#[derive(Clone, Debug)]
+pub struct Given {
+    pub fit: FitCase,
+    /// The lent buffer of the prepared numbers: as it is before a preparation, or
+    /// as it is handed to a solve.
+    pub prepared: Vec<f64>,
+}
+
+/// A preparation and then, if it answered, a solve with the numbers that it left.
+#[derive(Clone, Debug)]
+pub struct PairCase(pub Given);
+
+/// A solve with numbers that are handed to it.
+#[derive(Clone, Debug)]
+pub struct SolveCase(pub Given);
 
 /// The working set of given weights and violations.
 #[derive(Clone, Debug)]
@@ -110,9 +136,7 @@ impl Lent {
 }
 
 impl FitCase {
-    pub const CODE: u32 = 0x20;
-
-    fn input_words(&self) -> Vec<Word> {
+    pub fn words(&self) -> Vec<Word> {
         [
             self.design.words(),
             counted(&self.targets),
@@ -122,18 +146,49 @@ impl FitCase {
         .concat()
     }
 
-    /// A case that the Rust has no answer to is not read.
-    pub fn read(reader: &mut Reader) -> Result<FitCase, String> {
-        let case = FitCase {
+    fn read(reader: &mut Reader) -> Result<FitCase, String> {
+        Ok(FitCase {
             design: Design::read(reader)?,
             targets: reader.counted()?,
             settings: Settings::read(reader)?,
             lent: Lent::read(reader)?,
-        };
-        if !case.comparable() {
-            return Err("the Rust stops where a working set has fewer than K places".into());
-        }
-        Ok(case)
+        })
+    }
+}
+
+impl Given {
+    fn words(&self) -> Vec<Word> {
+        [self.fit.words(), counted(&self.prepared)].concat()
+    }
+
+    fn read(reader: &mut Reader) -> Result<Given, String> {
+        Ok(Given {
+            fit: FitCase::read(reader)?,
+            prepared: reader.counted()?,
+        })
+    }
+}
+
+/// What is said of a case that the Rust has no answer to; it is not read.
+const NO_ANSWER: &str = "the Rust stops where a working set has fewer than K places";
+
+impl PairCase {
+    pub const CODE: u32 = 0x20;
+
+    pub fn read(reader: &mut Reader) -> Result<PairCase, String> {
+        let case = PairCase(Given::read(reader)?);
+        let comparable = case.comparable().then_some(());
+        comparable.map(|()| case).ok_or(NO_ANSWER.into())
+    }
+}
+
+impl SolveCase {
+    pub const CODE: u32 = 0x22;
+
+    pub fn read(reader: &mut Reader) -> Result<SolveCase, String> {
+        let case = SolveCase(Given::read(reader)?);
+        let comparable = case.comparable().then_some(());
+        comparable.map(|()| case).ok_or(NO_ANSWER.into())
     }
 }
 

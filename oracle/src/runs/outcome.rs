@@ -2,7 +2,7 @@
 //! given up.
 
 use super::watch::{NotFinite, Report, TooLong, Watch};
-use super::FitCase;
+use super::{FitCase, Numbers, PairCase, SolveCase};
 use crate::calls::Runs;
 use crate::{loops, published};
 use std::any::Any;
@@ -19,6 +19,17 @@ pub enum Outcome {
     ShortSet,
     /// It took more work than it was given.
     TooLong,
+}
+
+impl Outcome {
+    /// Whether the run accepted an extrapolation.
+    pub fn accepts(&self) -> bool {
+        matches!(self, Outcome::Finished(report) if report.extrapolations > 0)
+    }
+
+    pub fn is_refused_for(&self, number: NotFinite) -> bool {
+        matches!(self, Outcome::NotFinite(found) if *found == number)
+    }
 }
 
 /// What the stand-in says where the Rust reads outside an array.
@@ -78,11 +89,28 @@ impl FitCase {
         self.depth_in_use().is_some_and(|depth| start < depth)
     }
 
-    /// Whether the Rust has an answer, in both variants.
-    pub fn comparable(&self) -> bool {
+    /// Whether the Rust's run comes to an end, in both variants.
+    fn is_run(&self, numbers: Numbers) -> bool {
         let short = |outcome| matches!(outcome, Outcome::ShortSet);
-        !self.may_be_short()
-            || self.refusal().is_some()
-            || !(short(loops::Rust::run(self)) || short(published::Rust::run(self)))
+        let stops =
+            || short(loops::Rust::run(self, numbers)) || short(published::Rust::run(self, numbers));
+        !self.may_be_short() || !stops()
+    }
+
+    /// Whether the Rust has an answer.
+    pub fn comparable(&self) -> bool {
+        self.refusal().is_some() || self.is_run(Numbers::Own)
+    }
+}
+
+impl PairCase {
+    pub fn comparable(&self) -> bool {
+        self.refusal().is_some() || self.0.fit.comparable()
+    }
+}
+
+impl SolveCase {
+    pub fn comparable(&self) -> bool {
+        self.refusal().is_some() || self.0.fit.is_run(Numbers::Handed(&self.handed()))
     }
 }

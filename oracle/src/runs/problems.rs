@@ -300,8 +300,19 @@ pub fn of_columns(columns: &[Vec<f64>], layout: Layout, keeps: impl FnMut() -> b
 }
 
 pub fn problem(theme: Theme, layout: Layout, random: &mut Random) -> (Design, Vec<f64>) {
+    changed(theme, layout, |_, _| {}, random)
+}
+
+/// A problem whose columns are changed before it is made of them.
+pub fn changed(
+    theme: Theme,
+    layout: Layout,
+    change: impl Fn(&mut [Vec<f64>], &mut Random),
+    random: &mut Random,
+) -> (Design, Vec<f64>) {
     let (n, p) = sizes(random);
     let mut columns = columns(theme, n, p, random);
+    change(&mut columns, random);
     let mut targets = targets(theme, &columns, random);
     if theme == Theme::Brim {
         // Products stay as they are.

@@ -1,7 +1,12 @@
-//! Document 01's refusals, which the Rust lacks, with document 02's places. 1 and 4 to 6 are those of every
-//! call that takes a design; 7 is found by the watch.
+//! The refusals of documents 01 and 02, which the Rust lacks. 1 and 4 to 6 are those
+//! of every call that takes a design; 7 in a run is found by the watch.
+//!
+//! Request 5: "the preparation tests 1, 3, 4, 5, 6, then 7 for the constants and
+//! X'y, which leaves the 2p numbers zero; the solve tests 10 after 6, changing
+//! nothing". The program keeps document 01's order: "in the order they are tested".
 
-use super::{FitCase, Lent, SetCase, Settings};
+use super::watch::{all_finite, NotFinite};
+use super::{FitCase, Given, Lent, PairCase, Prepared, SetCase, Settings, SolveCase};
 use crate::designs::{Refusal, FEATURES};
 use std::ops::RangeInclusive;
 
@@ -31,13 +36,14 @@ impl Settings {
 }
 
 impl FitCase {
-    /// The lengths that the lent buffers must have; K is in range.
+    /// The lengths that the lent buffers must have; K is in range. "Room for the
+    /// prepared numbers (2p) leaves the scratch": 3p or (2K+5)·p + n in document 01.
     pub fn room(&self) -> Lent {
         let (samples, features) = (self.design.samples, self.design.features);
         let scratch = if self.settings.extrapolate {
-            (2 * self.settings.depth + 5) * features + samples
+            (2 * self.settings.depth + 3) * features + samples
         } else {
-            3 * features
+            features
         };
         Lent {
             weights: features,
@@ -55,18 +61,98 @@ impl FitCase {
             || lent.scratch < room.scratch
     }
 
-    /// The first that applies, in document 01's order.
-    pub fn refusal(&self) -> Option<Refusal> {
+    /// 1 to 6, the first that applies in document 01's order; whether room lacks is
+    /// asked where the sizes and the settings hold.
+    fn refused_with(&self, room_lacks: impl FnOnce() -> bool) -> Option<Refusal> {
         if !self.design.sizes_hold_with(&self.targets) {
             return Some((1, 0));
         }
         if let Some(setting) = self.settings.wrong() {
             return Some((2, setting));
         }
-        if self.room_lacks() {
+        if room_lacks() {
             return Some((3, 0));
         }
         self.design.refused_content(&self.targets)
+    }
+
+    /// The program's, which comes to prepare and to solve only then.
+    pub fn refusal(&self) -> Option<Refusal> {
+        self.refused_with(|| self.room_lacks())
+    }
+}
+
+impl Given {
+    /// The room of the prepared numbers.
+    pub fn twice_features(&self) -> usize {
+        2 * self.fit.design.features as usize
+    }
+
+    fn prepared_lacks(&self) -> bool {
+        self.prepared.len() < self.twice_features()
+    }
+}
+
+impl PairCase {
+    /// The preparation's, before it computes anything.
+    pub fn refusal(&self) -> Option<Refusal> {
+        let FitCase {
+            design, targets, ..
+        } = &self.0.fit;
+        if !design.sizes_hold_with(targets) {
+            return Some((1, 0));
+        }
+        if self.0.prepared_lacks() {
+            return Some((3, 0));
+        }
+        design.refused_content(targets)
+    }
+}
+
+impl SolveCase {
+    /// The numbers that are handed over, where they have their room.
+    pub fn handed(&self) -> Prepared {
+        Prepared::read(&self.0.prepared, self.0.fit.design.features as usize)
+    }
+
+    /// All that comes before the run.
+    pub fn refusal(&self) -> Option<Refusal> {
+        let fit = &self.0.fit;
+        let early = fit.refused_with(|| fit.room_lacks() || self.0.prepared_lacks());
+        let column = || self.handed().refused_column();
+        early.or_else(|| column().map(|column| (10, column as u32)))
+    }
+}
+
+/// "the inverse of a nonzero one" is finite, or there is none to speak of.
+fn has_inverse(constant: f64) -> bool {
+    constant == 0.0 || (1.0 / constant).is_finite()
+}
+
+impl Prepared {
+    /// What 7 of a preparation is about, "these for all columns first": "a
+    /// Lipschitz constant, the inverse of a nonzero one, X'y entry".
+    pub fn not_finite(&self) -> Option<NotFinite> {
+        if !all_finite(&self.constants) {
+            return Some(NotFinite::Constant);
+        }
+        if !self.constants.iter().all(|&constant| has_inverse(constant)) {
+            return Some(NotFinite::Inverse);
+        }
+        (!all_finite(&self.products)).then_some(NotFinite::Product)
+    }
+
+    /// 10: "a prepared number not finite, a negative constant, or a nonzero one
+    /// with an inverse not finite". -0.0 is not negative, and a zero.
+    fn is_refused(constant: f64, product: f64) -> bool {
+        let finite = constant.is_finite() && product.is_finite();
+        !finite || constant < 0.0 || !has_inverse(constant)
+    }
+
+    /// "place: first such column".
+    pub fn refused_column(&self) -> Option<usize> {
+        let mut columns = self.constants.iter().zip(&self.products);
+        columns.position(|(&constant, &product)| Prepared::is_refused(constant, product))
     }
 }
 

@@ -5,6 +5,7 @@
 //! unwinding where a number is not finite. Whatever it takes for true is compared
 //! with what the Rust shows next, so that a wrong count can't pass unseen.
 
+use super::Prepared;
 use std::cell::RefCell;
 use std::panic::resume_unwind;
 
@@ -30,6 +31,9 @@ pub struct Report {
     pub iterations: u32,
     pub epochs: u32,
     pub extrapolations: u32,
+    /// Candidates of a smaller objective that were not taken, since one of their
+    /// entries isn't finite.
+    pub not_taken: u32,
     pub weights: Vec<f64>,
     pub fit: Vec<f64>,
 }
@@ -44,6 +48,7 @@ struct Point {
 /// penalty at the point where the run is, then both at the candidate.
 struct Candidate {
     point: Point,
+    /// As the Rust has them.
     values: Vec<f64>,
 }
 
@@ -63,6 +68,7 @@ struct Seen {
     /// Whether the working set was checked since this epoch began.
     set_checked: bool,
     extrapolations: u32,
+    not_taken: u32,
     /// Where the run is.
     point: Point,
     candidate: Option<Candidate>,
@@ -79,7 +85,7 @@ fn require(finite: bool, what: NotFinite) {
     }
 }
 
-fn all_finite(numbers: &[f64]) -> bool {
+pub fn all_finite(numbers: &[f64]) -> bool {
     numbers.iter().all(|x| x.is_finite())
 }
 
@@ -95,6 +101,10 @@ impl Point {
             weights: vec![0.0; features],
             fit: vec![0.0; samples],
         }
+    }
+
+    fn is_finite(&self) -> bool {
+        all_finite(&self.weights) && all_finite(&self.fit)
     }
 }
 
@@ -121,18 +131,26 @@ impl Seen {
         if let [datafit, penalty, its_datafit, its_penalty] = candidate.values[..] {
             let candidate = self.candidate.take().expect("there is one");
             if its_datafit + its_penalty < datafit + penalty {
-                self.accept(candidate.point);
+                self.decide_for(candidate.point);
             }
         }
     }
 
-    /// Document 01 wants every entry to be finite too, which the Rust doesn't
-    /// ask: a point that isn't finite has no smaller objective.
-    fn accept(&mut self, point: Point) {
-        let finite = all_finite(&point.weights) && all_finite(&point.fit);
-        assert!(finite, "an accepted candidate is not finite");
-        self.extrapolations += 1;
-        self.point = point;
+    /// Document 01 wants every entry to be finite too.
+    fn decide_for(&mut self, point: Point) {
+        if point.is_finite() {
+            self.extrapolations += 1;
+            self.point = point;
+        } else {
+            self.not_taken += 1;
+        }
+    }
+
+    /// Whether this value is a candidate's whose entries aren't all finite.
+    fn values_not_finite(&self) -> bool {
+        let candidate = self.candidate.as_ref();
+        candidate
+            .is_some_and(|candidate| candidate.values.len() >= 2 && !candidate.point.is_finite())
     }
 
     /// Whether this check is that of the working set. It comes in each epoch
@@ -156,6 +174,7 @@ impl Watch {
             epochs_of_set: 0,
             set_checked: false,
             extrapolations: 0,
+            not_taken: 0,
             point: Point::zero(samples, features),
             candidate: None,
             feature: 0,
@@ -163,12 +182,14 @@ impl Watch {
     }
 
     /// All columns first, whether there are iterations or not.
-    pub fn initialized(&self, constants: &[f64], products: &[f64]) {
-        require(all_finite(constants), NotFinite::Constant);
-        let mut nonzero = constants.iter().filter(|&&constant| constant != 0.0);
-        let inverses = nonzero.all(|constant| (1.0 / constant).is_finite());
-        require(inverses, NotFinite::Inverse);
-        require(all_finite(products), NotFinite::Product);
+    pub fn initialized(&self, constants: Vec<f64>, products: Vec<f64>) {
+        let prepared = Prepared {
+            constants,
+            products,
+        };
+        if let Some(number) = prepared.not_finite() {
+            require(false, number);
+        }
     }
 
     /// The Rust asks for the constants once in each epoch, at its beginning.
@@ -212,10 +233,19 @@ impl Watch {
         });
     }
 
-    pub fn datafit(&self, fit: &[f64], value: f64) {
+    /// Says which value the Rust is told: of a candidate whose entries aren't all
+    /// finite it is NaN, so that no objective of it is smaller. That condition is
+    /// document 01's; the Rust has none.
+    pub fn datafit(&self, fit: &[f64], value: f64) -> f64 {
         let mut seen = self.0.borrow_mut();
         assert!(same(&seen.valued().fit, fit), "the value's fit is another");
+        let told = if seen.values_not_finite() {
+            f64::NAN
+        } else {
+            value
+        };
         seen.value(value);
+        told
     }
 
     pub fn penalty(&self, weights: &[f64], value: f64) {
@@ -257,6 +287,7 @@ impl Watch {
             iterations: seen.checks - 1,
             epochs: seen.epochs,
             extrapolations: seen.extrapolations,
+            not_taken: seen.not_taken,
             weights: seen.point.weights,
             fit: seen.point.fit,
         }
