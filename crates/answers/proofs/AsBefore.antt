@@ -2,29 +2,27 @@
 -- nor fit, so that it does not matter what the preparation's 7 leaves of them. Assumes nothing.
 use mathlib.Core.Path.{_≡_, refl}
 use mathlib.Core.Bool.{Bool, true, false}
-use mathlib.Core.List.{List}
 use Prim.Native.Nat.{ℕ, _+_, _*_, _≤_}
-use native.Mathlib.Nat.{mul-le-mul, le-trans}
+use native.Mathlib.Nat.{mul-le-mul}
 use native.Mathlib.Omega.{arith}
 use borrow.Author.Tests.{le-leb}
 use lib.ListN.{take, replicate}
-use lib.Ieee.{Float}
-use Rattle.doubles.specs.Num.{#0, pick, _and_}
+use Rattle.doubles.specs.Num.{#0, pick}
 use Rattle.doubles.specs.Answer.{Outcome, refused, answered, none}
 use Rattle.designs.specs.Given.{Given}
-use Rattle.definition.specs.Call.{Lent, earlyFault, scratchRoom, roomy}
+use Rattle.definition.specs.Call.{earlyFault, scratchRoom, roomy}
 use Rattle.definition.specs.declared.Settings.{Settings}
 use Rattle.definition.specs.declared.Report.{Report}
 use Rattle.definition.proofs.Laws.Passed.{early}
 use Rattle.definition.proofs.Laws.Settings.{shallow}
-use Rattle.pairs.specs.Single.{singleRoom, singleCall, singleLeft}
-use Rattle.pairs.specs.AsSingle.{Roomy, SameButScratch, AsOrdered}
+use Rattle.pairs.specs.Single.{singleRoom}
+use Rattle.pairs.specs.AsSingle.{Roomy, AsOrdered}
 use Rattle.pairs.proofs.AsSingle.{both-hold}
 use Rattle.pairs.proofs.AsOrdered.{as-ordered}
 use Rattle.files.specs.Call.{Problem}
 use Rattle.listings.specs.Listing.{listed}
 use Rattle.answers.specs.Printed.{preparedPlaces, lentPlaces, problemFit, problemLeft, printedFor}
-use Rattle.answers.specs.AsBefore.{lentBefore, printedBefore}
+use Rattle.answers.specs.AsBefore.{printedBefore}
 
 -- what rows of at most 32 places take, beside at most 256 samples
 small : (c K p n : ℕ) → K ≤ 10 → p ≤ 32 → n ≤ 256 → (2 * K + c) * p + n ≤ (20 + c) * 32 + 256

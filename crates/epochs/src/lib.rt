@@ -3,9 +3,7 @@
 ghost use mathlib.Core.Path.{_≡_};
 ghost use mathlib.Core.List.{List};
 ghost use Prim.Native.Nat.{ℕ, _+_, _≤_, _<_};
-ghost use lib.Ieee.{le, lt};
 ghost use lib.ListN.{length, getD};
-ghost use Rattle.doubles.specs.Num as num;
 ghost use Rattle.designs.specs.Given.{given};
 ghost use Rattle.designs.specs.Inner.Sound.{Whole};
 ghost use Rattle.definition.specs.Epoch as ep;

@@ -8,7 +8,6 @@ ghost use lib.ListN.{length};
 ghost use Rattle.doubles.specs.Num as num;
 ghost use Rattle.doubles.specs.Steps.{tab};
 ghost use Rattle.designs.specs.Given.{given};
-ghost use Rattle.definition.specs.WorkingSet as set';
 ghost use Rattle.definition.specs.Epoch as ep;
 ghost use Rattle.definition.specs.Run as def;
 ghost use Rattle.definition.specs.Call as call;

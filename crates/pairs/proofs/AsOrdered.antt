@@ -1,10 +1,8 @@
 -- Document 01's order kept by the caller: sizes and settings first, by which the single call refuses too; behind them the room is there, so that the
 -- design and the targets are what both calls look at next. Assumes nothing.
-use mathlib.Core.Path.{_≡_, refl, sym, ap, _∙_}
+use mathlib.Core.Path.{_≡_, refl, _∙_}
 use mathlib.Core.Bool.{Bool, true, false}
 use mathlib.Core.List.{List}
-use lib.Dec.{leb}
-use lib.ListN.{length}
 use lib.Ieee.{Float}
 use Rattle.doubles.specs.Num.{_and_}
 use Rattle.doubles.specs.Answer.{refused, answered, Fault, none, unless, _then_}
@@ -12,14 +10,14 @@ use Rattle.doubles.proofs.Laws.Ends.{refused≢answered}
 use Rattle.designs.specs.Given.{Given}
 use Rattle.designs.specs.Checks.{sizes, contents, sizedFault, admitted, targetsFit, roomTwice, preparationFault}
 use Rattle.definition.specs.Preparation.{prepareCall, prepareLeft}
-use Rattle.definition.specs.Call.{Lent, settingsFault, roomy, earlyFault, solveTests, End, behind, solveEnd, answer, buffers}
+use Rattle.definition.specs.Call.{Lent, settingsFault, earlyFault, solveTests, End, behind, solveEnd, answer, buffers}
 use Rattle.definition.specs.Pair.{pairEnd, pairCall, pairLeft, orderedEnd}
 use Rattle.definition.specs.declared.Settings.{Settings}
 use Rattle.definition.specs.declared.Report.{Report}
 use Rattle.definition.proofs.Laws.Passed.{early}
 use Rattle.definition.proofs.Laws.Prepared.{still-long}
-use Rattle.pairs.specs.Single.{singleRoomy, singleFault, singleEnd, singleCall, singleLeft}
-use Rattle.pairs.specs.AsSingle.{NeitherRefused, Roomy, withScratch, SameButScratch, AsOrdered}
+use Rattle.pairs.specs.Single.{singleRoomy, singleFault, singleEnd, singleCall}
+use Rattle.pairs.specs.AsSingle.{NeitherRefused, Roomy, withScratch, AsOrdered}
 use Rattle.pairs.proofs.AsSingle.{both-hold, single-roomy, as-single}
 
 module _ (g : Given) (S : Settings) (buf : List Float) (b : Lent) (scratch : List Float) where

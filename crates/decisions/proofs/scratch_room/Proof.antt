@@ -3,7 +3,6 @@ use native.Mathlib.Omega.{arith}
 use Rattle.definition.proofs.Laws.Settings.{shallow}
 use Rattle.decisions.proofs.Laws.Room.{room-small}
 use Rattle.definition.specs.Call.{scratchRoom}
-use borrow.Author.Needs.{needs}
 use Rattle.decisions.proofs.scratch_room.Statement.{statement}
 use Rattle.decisions.proofs.scratch_room.Tie as tie
 

@@ -2,7 +2,7 @@
 use mathlib.Core.Path.{_≡_, refl}
 use mathlib.Core.Bool.{Bool, true, false, not, true≢false, false≢true}
 use mathlib.Core.List.{List}
-use Prim.Native.Nat.{ℕ, _+_, _≤_, _<_}
+use Prim.Native.Nat.{ℕ, _≤_, _<_}
 use lib.Ieee.{Float, lt, eq}
 use Rattle.doubles.specs.Num.{_⊘_, #0, #1, at, finite, _and_, _or_}
 use Rattle.doubles.specs.Answer.{none}

@@ -5,7 +5,7 @@ use native.Mathlib.Nat.{add-zero, zero-add, le-antisymm}
 use native.Mathlib.Omega.{arith}
 use mathlib.Core.List.{List, _∷_, _++_, append-assoc}
 use lib.ListN.{length, getD, take, drop, set, take-append-drop, length-append, length-drop, List·getD-append}
-use lib.Seq.{length-take-le, getD-take, getD-append-add, take-at, drop-at, drop-drop, drop-cons, getD-at, set-at}
+use lib.Seq.{length-take-le, getD-take, getD-append-add, take-at, drop-at, drop-drop, drop-cons, set-at}
 use Rattle.doubles.specs.Steps.{tab, steps}
 use Rattle.doubles.specs.Buffer.{put}
 use Rattle.doubles.proofs.Laws.Steps.{tab-suc, length-tab}
@@ -85,10 +85,6 @@ module _ {A : Type 0} where
 
     front : length (take g l ++ tab f j) ≡ g + j
     front = length-append (take g l) (tab f j) ∙ rw (length-tab f j, length-take-le g l (omega arith))
-
-    -- the place that comes next holds what it held
-    pub put-here : getD (put l g (tab f j)) (g + j) d ≡ getD l (g + j) d
-    put-here = rw parted (getD-at (take g l ++ tab f j) (getD l (g + j) d) (drop (suc (g + j)) l) d (g + j) front)
 
     pub put-more : (v : A) → v ≡ f j → set (put l g (tab f j)) (g + j) v ≡ put l g (tab f (j + 1))
     unfolding put

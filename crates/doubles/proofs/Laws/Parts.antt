@@ -1,4 +1,4 @@
--- Parts of a list: what a part that was put leaves before and behind it, and what is read back; lists of one number throughout; a list whose
+-- Parts of a list: what a part that was put leaves before it, and what is read back; lists of one number throughout; a list whose
 -- first places are written. Assumes nothing.
 use mathlib.Core.Path.{_≡_, refl, sym, ap, _∙_}
 use Prim.Native.Nat.{ℕ, zero, suc, _+_, _-_, _≤_, _<_}
@@ -6,8 +6,8 @@ use native.Mathlib.Numerals.{add-one}
 use native.Mathlib.Nat.{add-zero, sub-zero, zero-sub, suc-sub-suc}
 use native.Mathlib.Omega.{arith}
 use mathlib.Core.List.{List, [], _∷_, _++_, append-assoc, append-nil}
-use lib.ListN.{length, getD, take, drop, take-append-drop, length-append, length-drop, drop-of-length-le, replicate, replicate-append-replicate}
-use lib.Seq.{length-take-le, take-append-le, drop-append-le, take-at, drop-at, drop-cons, drop-drop}
+use lib.ListN.{length, getD, take, drop, take-append-drop, length-drop, drop-of-length-le, replicate, replicate-append-replicate}
+use lib.Seq.{length-take-le, take-append-le, drop-append-le, take-at, drop-at, drop-cons}
 use lib.Ieee.{Float, nan}
 use Rattle.doubles.specs.Num.{at}
 use Rattle.doubles.specs.Steps.{steps, tab}
@@ -37,21 +37,6 @@ module _ {A : Type 0} where
       let q : e - f ≡ n = omega arith in
       let d : length (drop f l) ≡ length l - f = length-drop f l in
       rw q (length-take-le n (drop f l) (omega arith))
-
-  -- behind the part that was put
-  pub part-behind : (l : List A) (o a m : ℕ) (xs : List A) → o + length xs ≤ a → o ≤ length l → take m (drop a (put l o xs)) ≡ take m (drop a l)
-  unfolding put
-  part-behind l o a m xs h k =
-      let e : length (take o l ++ xs) ≡ o + length xs = length-append (take o l) xs ∙ ap (λ (n : ℕ). n + length xs) (length-take-le o l k) in
-      let d : o + length xs + (a - (o + length xs)) ≡ a = omega arith in
-      let rest = drop (o + length xs) l in
-      let there : drop (o + length xs) (take o l ++ (xs ++ rest)) ≡ rest =
-      ap (drop (o + length xs)) (sym (append-assoc (take o l) xs rest)) ∙ drop-at (take o l ++ xs) rest (o + length xs) e in
-      ap (take m) (ap (λ (n : ℕ). drop n (take o l ++ (xs ++ rest))) (sym d)
-      ∙ sym (drop-drop (a - (o + length xs)) (o + length xs) (take o l ++ (xs ++ rest)))
-      ∙ ap (drop (a - (o + length xs))) there
-      ∙ drop-drop (a - (o + length xs)) (o + length xs) l
-      ∙ ap (λ (n : ℕ). drop n l) d)
 
   -- ---- one number throughout
   module _ (z : A) where

@@ -2,7 +2,7 @@
 use mathlib.Core.Path.{_≡_, refl, sym, ap, _∙_}
 use Prim.Native.Nat.{ℕ, suc, _+_, _-_, _*_, _%_, _≤_, _<_}
 use native.Mathlib.Numerals.{add-one}
-use native.Mathlib.Nat.{le-of-eq, le-trans, add-mul, suc-mul, mul-le-mul-right, mod-lt, zero-lt-suc}
+use native.Mathlib.Nat.{le-of-eq, le-trans, suc-mul, mul-le-mul-right, mod-lt, zero-lt-suc}
 use native.Mathlib.Omega.{arith}
 use borrow.Rule.Slice.PartMut.{putMid}
 use mathlib.Core.List.{List}

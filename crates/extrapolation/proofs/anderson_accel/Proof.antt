@@ -8,7 +8,7 @@ use Rattle.definition.specs.Extrapolation.{keptNow}
 use Rattle.extrapolation.specs.Inner.Places.{keptIn}
 use Rattle.extrapolation.proofs.Laws.Scratch.{row-small, row-room}
 use Rattle.extrapolation.proofs.Laws.Tries.{not-last, too-few, ready-again}
-use Prim.Native.Nat.{_-_, _*_}
+use Prim.Native.Nat.{_-_}
 use Rattle.extrapolation.proofs.Laws.Step.{row-left, step-tried}
 use native.Mathlib.Nat.{le-trans}
 use borrow.Rule.Slice.PartMut.{putMid, same-len-mid}

@@ -1,12 +1,12 @@
 -- The invariant of the outer loop: what the turns so far have led to. Assumes nothing.
 use mathlib.Core.Path.{_≡_, refl, _∙_}
-use Prim.Native.Nat.{ℕ, _+_, _≤_, _<_}
+use Prim.Native.Nat.{ℕ, _+_, _<_}
 use native.Mathlib.Omega.{arith}
 use mathlib.Core.List.{List, []}
 use lib.ListN.{length}
 use lib.Ieee.{Float}
 use Rattle.doubles.specs.Num.{#0}
-use Rattle.doubles.specs.Steps.{Stage, going, stopped, upto, tab}
+use Rattle.doubles.specs.Steps.{Stage, going, upto, tab}
 use Rattle.doubles.proofs.Laws.Steps.{steps-none, upto-more, upto-over, upto-next}
 use Rattle.designs.specs.Given.{Given}
 use Rattle.definition.specs.Epoch.{Task}

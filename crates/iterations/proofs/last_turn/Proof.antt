@@ -4,7 +4,6 @@ use mathlib.Core.List.{List}
 use lib.Ieee.{Float}
 use lib.ListN.{length}
 use lib.Seq.{length-take-le}
-use Rattle.definition.specs.Call.{concluded}
 use Rattle.epochs.proofs.Laws.Ready.{room-for}
 use Rattle.iterations.proofs.Laws.Turns.{turn-bad, last-stops}
 use Rattle.visits.specs.Inner.Reading.{measuredOf}

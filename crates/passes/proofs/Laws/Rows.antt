@@ -1,6 +1,6 @@
 -- A pass over the rows of a dense design, with a running sum for each feature. The idea, for any term of a row and a feature: after i rows each
 -- sum holds its first i terms, so after all of them each column is what it is by itself. Assumes nothing.
-use mathlib.Core.Path.{_≡_, refl, sym, ap, _∙_}
+use mathlib.Core.Path.{_≡_, sym, ap, _∙_}
 use Prim.Native.Nat.{ℕ, _+_, _-_, _≤_, _<_}
 use borrow.Rule.Slice.PartMut.{putMid}
 use native.Mathlib.Nat.{le-antisymm, le-of-eq}
@@ -10,12 +10,9 @@ use lib.ListN.{length, drop, length-append, length-drop, drop-of-length-le}
 use lib.Seq.{take-at, drop-at}
 use lib.Ieee.{Float, nan}
 use Rattle.doubles.specs.Num.{_⊕_, _⊘_, #0, count, at, abs, larger}
-use Rattle.doubles.specs.Buffer.{put}
 use Rattle.doubles.specs.Steps.{sum, tab, steps, largestFrom}
 use Rattle.doubles.proofs.Laws.Steps.{steps-more, steps-same, length-tab, getD-tab, tab-same}
-use Rattle.doubles.proofs.Laws.Buffer.{put-here, put-before, put-in, put-put, put-back}
 use Rattle.designs.specs.Design.{Design, dense, alphaMax, dot, squares, lipschitz, dots, prepared, gradientFrom, gradient, fullGradient}
-use Rattle.designs.proofs.Laws.Gradients.{length-gradients}
 
 -- the sums of all features over the first i rows
 unfoldable pub sums : (ℕ → ℕ → Float) → ℕ → ℕ → List Float
@@ -68,38 +65,6 @@ module _ (X : Design) (n p : ℕ) (hn : X .n ≡ n) (hp : X .p ≡ p) where
       (λ j h. ap (λ (x : Float). gradientFrom x (q j) n) (ap (λ (l : List Float). at l j) e ∙ getD-tab (λ j. dot X j v) (X .p) j nan h)
       ∙ ap (gradientFrom (dot X j v) (q j)) (sym hn))
 
-  -- the same where the products were lent as places 2p to 3p of a slice whose places p to 2p hold the entries of X'y
-  module _ (fit l : List Float) (long : p + p + p ≤ length l) where
-    abbrev filled : List Float
-    filled = put l (p + p) (dots X fit)
-
-    abbrev lent : List Float → List Float
-    lent ds = putMid (p + p) (p + p + p - (p + p)) l ds
-
-    length-dots : length (dots X fit) ≡ p
-    unfolding dots
-    length-dots = length-tab (λ j. dot X j fit) (X .p) ∙ hp
-
-    finished : tab (λ j. gradientFrom (at filled (p + p + j)) (at filled (p + j)) n) p ≡ fullGradient X fit (λ j. at l (p + j))
-    finished =
-        let d = length-dots in
-        dots-grad p fit (dots X fit) _ (λ j. at l (p + j)) refl refl
-        (tab-same (λ j. gradientFrom (at filled (p + p + j)) (at filled (p + j)) n) (λ j. gradientFrom (at (dots X fit) j) (at l (p + j)) n) p (λ j h.
-        rw (put-in l (p + p) (dots X fit) j nan (omega arith) (omega arith), put-before l (p + p) (dots X fit) (p + j) nan (omega arith) (omega arith))))
-
-    pub gradients-lent : (ds m : List Float) → ds ≡ dots X fit
-        → m ≡ put (lent ds) (p + p) (tab (λ j. gradientFrom (at (lent ds) (p + p + j)) (at (lent ds) (p + j)) n) p)
-        → m ≡ put l (p + p) (fullGradient X fit (λ j. at l (p + j)))
-    gradients-lent ds m e q =
-        let d = length-dots in
-        let k : p + p + p - (p + p) ≡ p = omega arith in
-        let b : lent ds ≡ filled = put-back l (p + p) p (p + p + p - (p + p)) ds k (ap length e ∙ d) ∙ rw e in
-        let g = fullGradient X fit (λ j. at l (p + j)) in
-        q
-        ∙ ap (λ (z : List Float). put z (p + p) (tab (λ j. gradientFrom (at z (p + p + j)) (at z (p + j)) n) p)) b
-        ∙ ap (put filled (p + p)) finished
-        ∙ put-put l (p + p) (dots X fit) g (omega arith) (d ∙ sym (length-gradients X fit (λ j. at l (p + j)) ∙ hp))
-
   -- the squares, and then each its constant
   pub squares-constants : (m : ℕ) (b r : List Float) → m ≡ p → b ≡ tab (squares X) p → r ≡ tab (λ j. at b j ⊘ count n) m → r ≡ tab (lipschitz X) p
   unfolding lipschitz
@@ -131,11 +96,3 @@ module _ (X : Design) (n p : ℕ) (hn : X .n ≡ n) (hp : X .p ≡ p) where
       (λ j h x. ap (λ (z : Float). larger x (abs z)) (ap (λ (l : List Float). at l j) e ∙ getD-tab (λ j. dot X j y) (X .p) j nan h)) in
       ap (λ (z : Float). z ⊘ count n) (k ∙ ap (largestFrom #0 (λ j. abs (at b j))) (hb ∙ hm ∙ sym hp) ∙ same)
       ∙ ap (λ (i : ℕ). largestFrom #0 (λ j. abs (dot X j y)) (X .p) ⊘ count i) (sym hn)
-
--- ---- a slice in which the first j of the places from 2p on are written: what the next gradient is made of is as it was
-pub gradient-there : (f : ℕ → Float) (l s : List Float) (n p j : ℕ) (x : Float) → s ≡ put l (p + p) (tab f j) → p + p + p ≤ length l → j < p
-    → x ≡ gradientFrom (at s (p + p + j)) (at s (p + j)) n → x ≡ gradientFrom (at l (p + p + j)) (at l (p + j)) n
-gradient-there f l s n p j x e h k q =
-    let t : at s (p + p + j) ≡ at l (p + p + j) = rw e (put-here f l (p + p) j nan (omega arith)) in
-    let u : at s (p + j) ≡ at l (p + j) = rw e (put-before l (p + p) (tab f j) (p + j) nan (omega arith) (omega arith)) in
-    q ∙ rw (t, u)

@@ -12,7 +12,7 @@ use lib.Ieee.{Float}
 use Rattle.doubles.specs.Num.{pick}
 use Rattle.doubles.specs.Steps.{zeros}
 use Rattle.doubles.specs.Buffer.{put}
-use Rattle.doubles.specs.Answer.{refused, Fault, none, unless, verdictOf}
+use Rattle.doubles.specs.Answer.{refused, none, unless, verdictOf}
 use Rattle.doubles.specs.declared.Refusal.{Refusal}
 use Rattle.doubles.specs.declared.Verdict.{Verdict}
 use Rattle.doubles.specs.declared.Verdict.the-variants as Verdict

@@ -1,5 +1,5 @@
 -- The answer and the buffers of a whole call, from what its parts answer. Assumes nothing.
-use mathlib.Core.Path.{_≡_, refl, sym, ap, _∙_}
+use mathlib.Core.Path.{_≡_, refl, sym, _∙_}
 use mathlib.Core.Bool.{Bool, true, false}
 use Prim.Native.Nat.{ℕ, _+_, _≤_}
 use mathlib.Core.List.{List}
@@ -21,10 +21,8 @@ use Rattle.designs.specs.Given.{Given}
 use Rattle.designs.specs.Checks.{sizes, contents, sizedFault, targetsFit, roomTwice}
 use Rattle.designs.specs.declared.Shape.{Shape}
 use Rattle.definition.specs.Call.{settingsFault, scratchRoom, Lent, lent, roomy, handedFault, earlyFault, solveTests, solveFault}
-use Rattle.definition.specs.Call.{End, untouched, givenUp, done, solved, taskOf, solveEnd, reportOf, answer, filled, buffers, solveCall, solveLeft}
+use Rattle.definition.specs.Call.{End, untouched, givenUp, done, solved, taskOf, solveEnd, reportOf, answer, buffers, solveCall, solveLeft}
 use Rattle.definition.specs.declared.Settings.{Settings}
-use Rattle.definition.specs.declared.Fit.{Fit}
-use Rattle.definition.specs.declared.Fit.the-variants as Fit
 use Rattle.definition.specs.declared.Report.{Report}
 use Rattle.definition.proofs.Laws.Passed.{early as passed-early, passed}
 use Rattle.epochs.specs.Inner.Reading.{Ready}

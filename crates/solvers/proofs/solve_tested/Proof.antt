@@ -1,5 +1,5 @@
 -- `solve_tested`: the run on the first places of each slice, which the tests have shown to have its room. Assumes nothing.
-use mathlib.Core.Path.{_≡_, refl, sym}
+use mathlib.Core.Path.{refl, sym}
 use native.Mathlib.Nat.{le-of-eq, le-trans}
 use native.Mathlib.Omega.{arith}
 use Prim.Native.Nat.{_≤_}
