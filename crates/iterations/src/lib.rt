@@ -5,8 +5,7 @@ ghost use mathlib.Core.Bool.{true};
 ghost use mathlib.Core.List.{List};
 ghost use Prim.Native.Nat.{ℕ, _+_, _≤_, _<_};
 ghost use lib.ListN.{length};
-ghost use Rattle.doubles.specs.Num as num;
-ghost use Rattle.doubles.specs.Steps.{tab};
+ghost use Rattle.doubles.specs.Steps.{zeros};
 ghost use Rattle.designs.specs.Given.{given};
 ghost use Rattle.definition.specs.Epoch as ep;
 ghost use Rattle.definition.specs.Run as def;
@@ -258,7 +257,8 @@ fn run(
     scratch: &mut [f64],
 ) -> RunEnd
     requires { ⌜ inner.Ready (given shape (now starts) (now rows) (now values) (now y)) settings (now w) (now fit) (now scratch)
-        × (length (now prepared) ≡ shape .p + shape .p) × (length (now indices) ≡ shape .p) × (now w ≡ tab (λ j. num.#0) (shape .p)) × (now fit ≡ tab (λ i. num.#0) (shape .n))
+        × (length (now prepared) ≡ shape .p + shape .p) × (length (now indices) ≡ shape .p) × (now w ≡ zeros (shape .p))
+        × (now fit ≡ zeros (shape .n))
         × (inner.keptHere shape settings (now scratch) ≡ here.nothingKept shape settings) ⌝ }
     ensures { λ r. ⌜ (let g = given shape (now (starts .entry)) (now (rows .entry)) (now (values .entry)) (now (y .entry)) in
         let T = taskWith g (settings .penalty) (now (prepared .entry)) in

@@ -14,9 +14,12 @@ use borrow.Author.Needs.{needs}
 use Rattle.iterations.proofs.turn.Statement.{statement}
 use Rattle.iterations.proofs.turn.Tie as tie
 
--- ---- the place: the check made, in the scratch's first p places
+-- ---- the places: the buffers lent, and the check made in the scratch's first p places
+abbrev lent : tie.After-slice-known4 → tie.Start
+lent c = c .before .before .before .before .before .before .before .before .before
+
 abbrev entry : tie.After-opt-cond-violation → tie.Start
-entry c = c .before .before .before .before .before .before .before .before .before .before .before .before .before
+entry c = lent (c .before .before .before .before)
 
 abbrev violations : tie.After-opt-cond-violation → List Float
 violations c = c .opt-cond-violation .last .1 .1 .1 .1 .1 .1 .1 .1 .0
@@ -26,14 +29,14 @@ long c = c .opt-cond-violation .kept .1 .1 .1 .1 .1 .1 .1 .1 .0 ∙ length-take-
 
 -- ---- the needs
 slice-relend-prefix-opt-cond-violation : tie.Need-slice-relend-prefix-opt-cond-violation
-slice-relend-prefix-opt-cond-violation c = let start = c .before .before .before .before .before .before .before .before .before .before .before in room-for (start .pre .0)
+slice-relend-prefix-opt-cond-violation c = room-for (lent (c .before .before) .pre .0)
 
 slice-aggregate-opt-cond-violation : tie.Need-slice-aggregate-opt-cond-violation
-slice-aggregate-opt-cond-violation c = let start = c .before .before .before .before .before .before .before .before .before .before .before .before in sym (length-take-le _ _ (room-for (start .pre .0)))
+slice-aggregate-opt-cond-violation c = sym (length-take-le _ _ (room-for (lent (c .before .before .before) .pre .0)))
 
 opt-cond-violation-requires : tie.Need-opt-cond-violation-requires
 opt-cond-violation-requires c κs =
-    let start = c .before .before .before .before .before .before .before .before .before .before .before .before in
+    let start = lent (c .before .before .before) in
     let ready = start .pre .0 in
     (ready .samples, ready .weights, start .pre .1, ready .whole, ready .fits, length-take-le _ _ (room-for ready))
 

@@ -28,9 +28,10 @@ returns : tie.Need-returns
 returns c =
     let buffers = c .before .before in
     let indices = buffers .before .before .before .before in
-    let a = c .before .before .before .before .before .before .before .before .before .before .before .before .before .before .args in
+    let roomed = indices .before .before in
+    let a = roomed .before .before .before .before .before .before .args in
     let b = lent (now (a .w)) (now (a .fit)) (now (a .indices)) (now (a .scratch)) in
-    let tested = rooms-tested (a .shape) (a .settings) (now (a .prepared)) b _ _ _ _ _ (indices .before .before .scratch-room .ensures) (indices .both .ensures) in
+    let tested = rooms-tested (a .shape) (a .settings) (now (a .prepared)) b _ _ _ _ _ (roomed .scratch-room .ensures) (indices .both .ensures) in
     tested (buffers .before .both2 .ensures) (buffers .both3 .ensures) (c .both4 .ensures)
 
 pub has-room-spec : {M : Type 1} → statement M

@@ -80,8 +80,9 @@ loop-again c =
     let start = turn .before .before .before in
     let inside : turn .loop .j < length (now (start .args .gradients)) = omega arith in
     let same = tab-here _ _ _ _ (turn .loop .inv .2) nan inside in
-    let weighed = c .before .before .before .before .before .before .weight .ensures in
-    let there = of-place _ (now (start .args .w)) (now (start .args .gradients)) (turn .loop .j) _ _ _ weighed same (c .before .before .before .before .violation-at .ensures) in
+    let violation = c .before .before .before .before in
+    let weighed = violation .before .before .weight .ensures in
+    let there = of-place _ (now (start .args .w)) (now (start .args .gradients)) (turn .loop .j) _ _ _ weighed same (violation .violation-at .ensures) in
     let told = c .before .before .v .given .1 in (
       search needs,
       search needs,
