@@ -242,6 +242,20 @@ fn last_turn(
     }
 }
 
+// Before the first turn.
+fn nothing_counted() -> Totals
+    ensures { λ r. ⌜ r ≡ here.nothingCounted ⌝ }
+{
+    Totals {
+        violation: 0.0,
+        iterations: 0,
+        counts: Counts {
+            epochs: 0,
+            extrapolations: 0,
+        },
+    }
+}
+
 // The run, from zero weights and zero fit.
 fn run(
     shape: Shape,
@@ -265,14 +279,7 @@ fn run(
         here.showsEnd shape settings r (now (w .exit)) (now (fit .exit)) (now (scratch .exit))
         (call.concluded (def.run T (now (y .entry)) settings))) ⌝ }
 {
-    let mut totals = Totals {
-        violation: 0.0,
-        iterations: 0,
-        counts: Counts {
-            epochs: 0,
-            extrapolations: 0,
-        },
-    };
+    let mut totals = nothing_counted();
     let mut t = 0;
     while t < settings.iterations {
         match turn(

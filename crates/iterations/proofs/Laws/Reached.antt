@@ -16,7 +16,7 @@ use Rattle.definition.specs.declared.Settings.{Settings}
 use Rattle.extrapolation.specs.Inner.Places.{taskWith}
 use Rattle.epochs.specs.Inner.Reading.{keptHere}
 use Rattle.epochs.proofs.Laws.Reached.{Held}
-use Rattle.iterations.specs.Inner.Reading.{nothingKept, stateOf, outerStage, totalsOf, setsOf, shows, showsEnd, Totalled, Grown}
+use Rattle.iterations.specs.Inner.Reading.{nothingKept, nothingCounted, stateOf, outerStage, totalsOf, setsOf, shows, showsEnd, Totalled, Grown}
 use Rattle.iterations.specs.declared.Totals.{Totals}
 use Rattle.iterations.specs.declared.OuterStep.{OuterStep}
 use Rattle.iterations.specs.declared.OuterStep.the-variants as Outer'
@@ -54,15 +54,14 @@ module _ (g : Given) (prepared : List Float) (S : Settings) where
 
   pub turned-none : (w fit scratch : List Float) → w ≡ tab (λ j. #0) (g .shape .p) → fit ≡ tab (λ i. #0) (g .shape .n)
       → keptHere (g .shape) S scratch ≡ nothingKept (g .shape) S
-      → Turned w fit scratch 0 (record { violation = #0; iterations = 0; counts = record { epochs = 0; extrapolations = 0 } }) w fit scratch
+      → (c : Totals) → c ≡ nothingCounted → Turned w fit scratch 0 c w fit scratch
   unfolding start
-  turned-none w fit scratch ew ef ek =
-      let c : Totals = record { violation = #0; iterations = 0; counts = record { epochs = 0; extrapolations = 0 } } in
-      record {
+  turned-none w fit scratch ew ef ek c ec =
+      rw ec (record {
         held = record { weights = refl; fits = refl; room = refl };
         totalled = record { iterations = omega arith; counts = record { epochs = omega arith; extrapolations = omega arith } };
-        stage = shown-going (turns 0) c w fit (keptHere (g .shape) S scratch) [] (rw (ew, ef, ek) (steps-none _ _));
-      }
+        stage = shown-going (turns 0) nothingCounted w fit (keptHere (g .shape) S scratch) [] (rw (ew, ef, ek) (steps-none _ _));
+      })
 
   module _ {w₀ fit₀ scratch₀ : List Float} {t : ℕ} {c : Totals} {w fit scratch : List Float} (R : Turned w₀ fit₀ scratch₀ t c w fit scratch) where
     -- turn t, as the definition takes it from the first t

@@ -24,7 +24,7 @@ abbrev μ-loop : tie.MeasureT-loop
 
 -- ---- the places: the loop, its test passed, and the turn made, each from the one behind it
 abbrev entry : tie.At-loop Inv-loop μ-loop → tie.Start Inv-loop μ-loop
-entry c = c .before .before .before .before .before .before .before .before .before .before
+entry c = c .before .before .before .before .before .before .before .before .before .before .before
 
 abbrev at-loop : tie.Then1 Inv-loop μ-loop → tie.At-loop Inv-loop μ-loop
 at-loop c = c .before .before
@@ -45,10 +45,13 @@ lengths c =
     (kept .0 ∙ inv .2 .held .weights, kept .1 .0 ∙ inv .2 .held .fits, kept .1 .1 .0 ∙ inv .1, kept .1 .1 .1 .0 ∙ inv .2 .held .room)
 
 -- ---- the needs
+nothing-counted-requires : tie.Need-nothing-counted-requires Inv-loop μ-loop
+nothing-counted-requires c κs = search needs
+
 loop-holds : tie.Need-loop-holds Inv-loop μ-loop
 loop-holds c =
-    let start = c .before .before .before .before .before .before .before .before .before in
-    (search needs, refl, turned-none _ _ _ _ _ _ (start .pre .3) (start .pre .4) (start .pre .5))
+    let start = c .before .before .before .before .before .before .before .before .before .before in
+    (search needs, refl, turned-none _ _ _ _ _ _ (start .pre .3) (start .pre .4) (start .pre .5) _ (c .nothing-counted .ensures))
 
 turn-requires : tie.Need-turn-requires Inv-loop μ-loop
 turn-requires c κs =
@@ -162,6 +165,7 @@ run-spec =
     (tie.spec
     Inv-loop
     μ-loop
+    nothing-counted-requires
     loop-holds
     turn-requires
     enum-known-c

@@ -29,6 +29,9 @@ violationsIn s scratch = take (s .p) scratch
 abbrev pub stateOf : Totals → List Float → List Float → List Float → List (List ℕ) → State
 stateOf c w fit kept sets = record { inner = innerOf (c .counts) w fit kept; violation = c .violation; iterations = c .iterations; sets = sets }
 
+abbrev pub nothingCounted : Totals
+nothingCounted = record { violation = #0; iterations = 0; counts = record { epochs = 0; extrapolations = 0 } }
+
 abbrev pub atViolation : Float → Totals → Totals
 atViolation v c = record { violation = v; iterations = c .iterations; counts = c .counts }
 
