@@ -1,4 +1,4 @@
--- What a reader believes of a whole call: document 01's sections "Working set, extrapolation, loops" and "Refusal numbers".
+-- What a reader believes of a fit: document 01's sections "Working set, extrapolation, loops" and "Refusal numbers", and request 5's two calls.
 pub mod WorkingSet
 pub mod Epoch
 pub mod Extrapolation

@@ -1,5 +1,5 @@
-// What a whole call is given and what it answers. The definition of the call stands in specs/: the crates that run it, the table of values and
-// the sign laws all cite it from here, so that an edit of the one does not open the others.
+// What a solve is given beside a design, and what it answers. The definition stands in specs/: the crates that run it, the table of values and the
+// sign laws all cite it from here, so that an edit of the one does not open the others.
 use doubles::Refusal;
 use penalties::separable::Penalty;
 

@@ -1,2 +1,2 @@
--- Laws on a whole call.
+-- Laws on a solve.
 pub mod Calls

@@ -1,4 +1,4 @@
--- The answer and the buffers of a whole call, from what its parts answer. Assumes nothing.
+-- The answer and the buffers of a solve, from what its parts answer. Assumes nothing.
 use mathlib.Core.Path.{_≡_, refl, sym, _∙_}
 use mathlib.Core.Bool.{Bool, true, false}
 use Prim.Native.Nat.{ℕ, _+_, _≤_}
@@ -132,7 +132,7 @@ module _ (g : Given) (S : Settings) (handed : List Float) (b : Lent) (h : solveT
         room = length-take-le (scratchRoom (g .shape) S) (b .scratch) (rooms .scratch);
       }
 
--- ---- the whole call, by its verdict
+-- ---- the solve, by its verdict
 module _ (g : Given) (S : Settings) (handed : List Float) (b : Lent) (v : Verdict) (e : verdictOf v ≡ solveFault g S handed b) where
   abbrev pub Left : Outcome Report → Lent → Type 0
   Left o b' = (o ≡ solveCall g S handed b) × (b' ≡ solveLeft g S handed b)
