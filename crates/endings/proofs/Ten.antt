@@ -12,9 +12,10 @@ use Rattle.designs.specs.Search.{firstOf, mark}
 use Rattle.designs.specs.Checks.{told}
 use Rattle.designs.specs.declared.Found.{Found}
 use Rattle.designs.specs.declared.Found.the-variants.{At, Nowhere}
-use Rattle.designs.proofs.Laws.Search.{none-first, first-here, FirstAt, first-found}
+use Rattle.designs.proofs.Laws.Search.{unmarked, none-first, first-here, FirstAt, first-found}
 use Rattle.definition.specs.Call.{Lent, acceptableAt, handedFault, solveTests, solveFault, solveEnd, solveCall, solveLeft}
 use Rattle.definition.specs.declared.Settings.{Settings}
+use Rattle.definition.proofs.Laws.Handed.{is-not}
 use Rattle.definition.proofs.Laws.Refusals.{From, from-tests, from-numbers, from-run, refused-from}
 use Rattle.endings.specs.Ten.{FirstSuch, Ten}
 
@@ -27,10 +28,6 @@ module _ (p : ℕ) (handed : List Float) where
   marked true j place e = absurd (let z : _≡_ {A = ℕ} 0 1 = cc in omega arith)
   marked false j place e = (refl, cc)
 
-  passes : (b : Bool) (j : ℕ) → mark (not b) j ≡ Nowhere → b ≡ true
-  passes true j e = refl
-  passes false j e = absurd (let z : _≡_ {A = ℕ} 0 1 = cc in omega arith)
-
   found : (place : ℕ) → handedFault p handed ≡ refused 10 place → FirstSuch p handed place
   unfolding handedFault
   found place = go (firstOf such p) refl
@@ -38,7 +35,7 @@ module _ (p : ℕ) (handed : List Float) where
       first : (k : ℕ) → FirstAt such p k → FirstSuch p handed k
       first k f =
           let m = marked (acceptableAt p handed (f .spot)) (f .spot) k (f .here) in
-          rw (← m .1) (record { column = f .inside; fails = m .0; before = λ j l. passes (acceptableAt p handed j) j (f .before j l) })
+          rw (← m .1) (record { column = f .inside; fails = m .0; before = λ j l. is-not _ (unmarked _ j (f .before j l)) })
 
       go : (r : Found) → firstOf such p ≡ r → told 10 r none ≡ refused 10 place → FirstSuch p handed place
       go (At k) q e = let n : k ≡ place = cc in rw (← n) (first k (first-found such p k q))

@@ -16,7 +16,7 @@ use Rattle.designs.proofs.Laws.Preparation.{constant-at, lipschitz-not-below}
 use Rattle.definition.specs.Preparation.{usable, usableAt, allUsable}
 use Rattle.definition.specs.Call.{acceptable, acceptableAt, handedFault}
 
-is-not : (b : Bool) → not b ≡ false → b ≡ true
+pub is-not : (b : Bool) → not b ≡ false → b ≡ true
 is-not true e = refl
 is-not false e = absurd (true≢false e)
 
