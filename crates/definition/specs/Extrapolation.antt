@@ -3,7 +3,7 @@
 use mathlib.Core.Bool.{Bool}
 use mathlib.Core.List.{List}
 use Prim.Native.Nat.{ℕ, suc, _+_, _*_, _%_}
-use lib.Dec.{leb, eqb, ltb}
+use lib.Dec.{eqb, ltb}
 use lib.ListN.{length, getD, set}
 use lib.Ieee.{Float, lt}
 use Rattle.doubles.specs.Num.{_⊕_, _⊖_, _⊗_, _⊘_, #0, #1, at, finite, pick, _and_}
@@ -22,20 +22,21 @@ gathered ws w = tab (λ i. at w (getD ws i 0)) (length ws)
 unfoldable pub keptNow : ℕ → ℕ → ℕ → List ℕ → List Float → List Float → List Float
 keptNow K p e ws w kept = put kept ((e % suc K) * p) (gathered ws w)
 
--- ---- "entry (a,b) is Σ over k of U[k,a]·U[k,b] for the first K working-set places"
--- "U holds the K successive row differences"
+-- ---- "the matrix should pair the K steps with each other: entry (k,l) is the sum over the working set of U[k,j]·U[l,j]"
+-- "U holds the K successive row differences", a step each, here at place i of the working set
 abbrev pub U : ℕ → List Float → ℕ → ℕ → Float
-U p kept k a = at kept (suc k * p + a) ⊖ at kept (k * p + a)
+U p kept k i = at kept (suc k * p + i) ⊖ at kept (k * p + i)
 
+-- over its m places in their order, columns that are skipped for their constant too
 unfoldable pub entry : ℕ → ℕ → List Float → ℕ → ℕ → Float
-entry K p kept a b = sum (λ k. U p kept k a ⊗ U p kept k b) K
+entry p m kept k l = sum (λ i. U p kept k i ⊗ U p kept l i) m
 
--- row a, its right-hand side 1 at place K; places past it are never looked at
-unfoldable pub systemRow : ℕ → ℕ → List Float → ℕ → List Float
-systemRow K p kept a = tab (λ b. pick (ltb b K) (entry K p kept a b) (pick (eqb b K) #1 #0)) 11
+-- row k, its right-hand side 1 at place K; places past it are never looked at
+unfoldable pub systemRow : ℕ → ℕ → ℕ → List Float → ℕ → List Float
+systemRow K p m kept k = tab (λ l. pick (ltb l K) (entry p m kept k l) (pick (eqb l K) #1 #0)) 11
 
-unfoldable pub system : ℕ → ℕ → List Float → Matrix
-system K p kept = tab (λ a. pick (ltb a K) (systemRow K p kept a) (tab (λ b. #0) 11)) 10
+unfoldable pub system : ℕ → ℕ → ℕ → List Float → Matrix
+system K p m kept = tab (λ k. pick (ltb k K) (systemRow K p m kept k) (tab (λ l. #0) 11)) 10
 
 -- ---- "With z the solution and c = z/Σz, the candidate is the sum of c_k·row_k for the first K rows, zero elsewhere"
 unfoldable pub coefficients : ℕ → List Float → List Float
@@ -85,11 +86,11 @@ unfoldable pub fromSystem : Task → List Float → ℕ → List ℕ → List Fl
 fromSystem T y K ws kept s m = pick (regular K m) (chosen T y (candidateOf T K ws kept (readOff K m)) s) (keeps s)
 
 unfoldable pub extrapolate : Task → List Float → ℕ → List ℕ → List Float → Point → Tried
-extrapolate T y K ws kept s = fromSystem T y K ws kept s (eliminated K (system K (T .p) kept))
+extrapolate T y K ws kept s = fromSystem T y K ws kept s (eliminated K (system K (T .p) (length ws) kept))
 
--- "When epoch mod (K+1) = K"; "With fewer than K places the Rust panics; the port skips"
-unfoldable pub due : ℕ → ℕ → List ℕ → Bool
-due K e ws = eqb (e % suc K) K and leb K (length ws)
+-- "When epoch mod (K+1) = K"; and "the skip for fewer than K places goes away"
+unfoldable pub due : ℕ → ℕ → Bool
+due K e = eqb (e % suc K) K
 
 unfoldable pub tried : Task → List Float → ℕ → ℕ → List ℕ → List Float → Point → Tried
-tried T y K e ws kept s = pick (due K e ws) (extrapolate T y K ws kept s) (keeps s)
+tried T y K e ws kept s = pick (due K e) (extrapolate T y K ws kept s) (keeps s)

@@ -1,4 +1,5 @@
 -- Laws on the definitions of specs/, from the raw ones of each operation to those that compose.
+pub mod Product
 pub mod Turn
 pub mod Turned
 pub mod Choice

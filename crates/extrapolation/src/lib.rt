@@ -34,54 +34,69 @@ pub struct Kept {
 
 // ---- the system
 
-// Row difference k at place a.
-fn difference(kept: &[f64], shape: Kept, k: usize, a: usize) -> f64
-    requires { ⌜ (k < shape .depth) × (a < shape .p) × (suc (shape .depth) * shape .p ≤ length (now kept)) ⌝ }
-    ensures { λ r. ⌜ r ≡ ext.U (shape .p) (now (kept .entry)) k a ⌝ }
+// Step k at place i of the working set: the difference of two rows.
+fn difference(kept: &[f64], shape: Kept, k: usize, i: usize) -> f64
+    requires { ⌜ (k < shape .depth) × (i < shape .p) × (suc (shape .depth) * shape .p ≤ length (now kept)) ⌝ }
+    ensures { λ r. ⌜ r ≡ ext.U (shape .p) (now (kept .entry)) k i ⌝ }
 {
     let p = shape.p;
-    kept[(k + 1) * p + a] - kept[k * p + a]
+    kept[(k + 1) * p + i] - kept[k * p + i]
 }
 
-// The sum over k of U[k,a]·U[k,b].
-fn entry(kept: &[f64], shape: Kept, a: usize, b: usize) -> f64
-    requires { ⌜ (a < shape .p) × (b < shape .p) × (suc (shape .depth) * shape .p ≤ length (now kept)) ⌝ }
-    ensures { λ r. ⌜ r ≡ ext.entry (shape .depth) (shape .p) (now (kept .entry)) a b ⌝ }
+// Steps k and l paired: the sum of U[k,i]·U[l,i] over the places of a working set of that size, in their order. A row's places lie side by side, so
+// that the sum streams.
+fn entry(kept: &[f64], shape: Kept, size: usize, k: usize, l: usize) -> f64
+    requires { ⌜ (k < shape .depth) × (l < shape .depth) × (size ≤ shape .p) × (suc (shape .depth) * shape .p ≤ length (now kept)) ⌝ }
+    ensures { λ r. ⌜ r ≡ ext.entry (shape .p) size (now (kept .entry)) k l ⌝ }
 {
     let mut s = 0.0;
-    let mut k = 0;
-    while k < shape.depth {
-        s = s + difference(kept, shape, k, a) * difference(kept, shape, k, b);
-        k += 1;
+    let mut i = 0;
+    while i < size {
+        s = s + difference(kept, shape, k, i) * difference(kept, shape, l, i);
+        i += 1;
     }
     s
 }
 
-fn system_row(kept: &[f64], shape: Kept, a: usize) -> [f64; 11]
-    requires { ⌜ (a < shape .p) × (shape .depth ≤ shape .p) × (shape .depth ≤ 10) × (suc (shape .depth) * shape .p ≤ length (now kept)) ⌝ }
-    ensures { λ r. ⌜ r ≡ ext.systemRow (shape .depth) (shape .p) (now (kept .entry)) a ⌝ }
+// Entry (k,l), where the rows above row k stand in the system: a pair is the same both ways, and is summed once.
+fn paired(kept: &[f64], shape: Kept, size: usize, above: [[f64; 11]; 10], k: usize, l: usize) -> f64
+    requires { ⌜ (k < shape .depth) × (l < shape .depth) × (shape .depth ≤ 10) × (size ≤ shape .p)
+        × (suc (shape .depth) * shape .p ≤ length (now kept))
+        × places.RowsAbove shape size (now kept) k above ⌝ }
+    ensures { λ r. ⌜ r ≡ ext.entry (shape .p) size (now (kept .entry)) k l ⌝ }
+{
+    if l < k {
+        return above[l][k];
+    }
+    entry(kept, shape, size, k, l)
+}
+
+fn system_row(kept: &[f64], shape: Kept, size: usize, above: [[f64; 11]; 10], k: usize) -> [f64; 11]
+    requires { ⌜ (k < shape .depth) × (shape .depth ≤ 10) × (size ≤ shape .p) × (suc (shape .depth) * shape .p ≤ length (now kept))
+        × places.RowsAbove shape size (now kept) k above ⌝ }
+    ensures { λ r. ⌜ r ≡ ext.systemRow (shape .depth) (shape .p) size (now (kept .entry)) k ⌝ }
 {
     let depth = shape.depth;
     let mut row = [0.0; 11];
-    let mut b = 0;
-    while b < depth {
-        row[b] = entry(kept, shape, a, b);
-        b += 1;
+    let mut l = 0;
+    while l < depth {
+        row[l] = paired(kept, shape, size, above, k, l);
+        l += 1;
     }
     row[depth] = 1.0;
     row
 }
 
-fn system(kept: &[f64], shape: Kept) -> [[f64; 11]; 10]
-    requires { ⌜ (shape .depth ≤ shape .p) × (shape .depth ≤ 10) × (suc (shape .depth) * shape .p ≤ length (now kept)) ⌝ }
-    ensures { λ r. ⌜ r ≡ ext.system (shape .depth) (shape .p) (now (kept .entry)) ⌝ }
+fn system(kept: &[f64], shape: Kept, size: usize) -> [[f64; 11]; 10]
+    requires { ⌜ (shape .depth ≤ 10) × (size ≤ shape .p) × (suc (shape .depth) * shape .p ≤ length (now kept)) ⌝ }
+    ensures { λ r. ⌜ r ≡ ext.system (shape .depth) (shape .p) size (now (kept .entry)) ⌝ }
 {
     let mut m = [[0.0; 11]; 10];
-    let mut a = 0;
-    while a < shape.depth {
-        let row = system_row(kept, shape, a);
-        m[a] = row;
-        a += 1;
+    let mut k = 0;
+    while k < shape.depth {
+        let row = system_row(kept, shape, size, m, k);
+        m[k] = row;
+        k += 1;
     }
     m
 }
@@ -332,8 +347,7 @@ fn extrapolate(
     fit: &mut [f64],
     scratch: &mut [f64],
 ) -> usize
-    requires { ⌜ places.StepReady (given shape (now starts) (now rows) (now values) (now y)) depth (now ws) (now w) (now fit) (now scratch)
-        × (depth ≤ shape .p) ⌝ }
+    requires { ⌜ places.StepReady (given shape (now starts) (now rows) (now values) (now y)) depth (now ws) (now w) (now fit) (now scratch) ⌝ }
     ensures { λ r. ⌜ (let g = given shape (now (starts .entry)) (now (rows .entry)) (now (values .entry)) (now (y .entry)) in
         let T = places.taskWith g penalty in
         let kept = places.keptIn shape depth (now (scratch .entry)) in
@@ -348,7 +362,7 @@ fn extrapolate(
     let at = lay_out(shape.n, kept);
     let a = at.kept;
     let b = at.until;
-    let m = eliminate(system(&scratch[a..b], kept), depth);
+    let m = eliminate(system(&scratch[a..b], kept, ws.len()), depth);
     if is_regular(m, depth) {} else {
         return 0;
     }
@@ -370,7 +384,7 @@ fn extrapolate(
 }
 
 // After the visits of epoch e: the weights are kept as row e mod (K+1), and where that is the last row, the extrapolation is tried; the number
-// accepted. With fewer than K places there is no system.
+// accepted.
 pub fn anderson_accel(
     shape: Shape,
     starts: &[u32],
@@ -403,9 +417,6 @@ pub fn anderson_accel(
     let b = at.until;
     keep(ws, w, row * shape.p, &mut scratch[a..b]);
     if row == depth {} else {
-        return 0;
-    }
-    if depth <= ws.len() {} else {
         return 0;
     }
     extrapolate(

@@ -1,6 +1,6 @@
 -- Demand 3 in its plain cases: the second pair of calls is given the very numbers of the first, negated. Assumes nothing.
-use mathlib.Core.Path.{_≡_, refl, sym, _∙_}
-use mathlib.Core.Bool.{Bool, true, false, false≢true}
+use mathlib.Core.Path.{_≡_, sym, _∙_}
+use mathlib.Core.Bool.{Bool, true, false}
 use mathlib.Core.List.{List, [], _∷_}
 use Prim.Native.Nat.{ℕ, zero, suc, _+_, _*_, _%_, _≤_, _<_}
 use native.Mathlib.Nat.{le-refl, le-trans, lt-of-lt-of-le, not-suc-le-zero, mod-eq-of-lt, mul-add-mod-self-right}
@@ -51,9 +51,8 @@ targets-turned g S buf b =
       stored = signs-refl (g .values);
       columns = λ j k l m. turned-refl;
       targets = signs-of (λ (i : ℕ). true) (g .targets);
-      off = λ e j. refl;
     })
-    buf b
+    S buf b
 
 -- ---- a stored entry's sign is its column's
 dense-sign : (k p j : ℕ) → j < p → (k * p + j) % p ≡ j
@@ -87,22 +86,21 @@ entry-turned c Csc n p starts rows H v j k l m =
     let a = getD starts j 0 in
     rw (csc-sign (H .rising) c (a + k) p (le-refl p) j l (omega arith) (omega arith)) at (signs-at v (a + k))
 
--- "(extrapolation off) any set of columns, or both": for every design
-pub columns-turned : (c : ℕ → Bool) (t : Bool) (g : Given) (S : Settings) (buf : List Float) (b : Lent) → S .extrapolate ≡ false
+-- "any set of columns, or both": for every design and all settings
+pub columns-turned : (c : ℕ → Bool) (t : Bool) (g : Given) (S : Settings) (buf : List Float) (b : Lent)
     → SameCall c t g
     (withNumbers g (turned (signsOf (g .shape .layout) c (g .shape .p) (g .starts)) (g .values)) (turned (λ (i : ℕ). t) (g .targets))) S buf b
 unfolding preparationFault
-columns-turned c t g S buf b off =
+columns-turned c t g S buf b =
     let s = g .shape in
     let σ = signsOf (s .layout) c (s .p) (g .starts) in
-    sign-law-passed g buf b (signs-of σ (g .values)) (signs-of (λ (i : ℕ). t) (g .targets))
+    sign-law-passed g S buf b (signs-of σ (g .values)) (signs-of (λ (i : ℕ). t) (g .targets))
     (λ e. record {
       signs = σ;
       stored = signs-of σ (g .values);
       columns =
           entry-turned c (s .layout) (s .n) (s .p) (g .starts) (g .rows) (admits g (targetsFit g) (roomTwice (s .p) buf) e .whole) (signs-of σ (g .values));
       targets = signs-of (λ (i : ℕ). t) (g .targets);
-      off = λ e j. absurd (false≢true (sym off ∙ e));
     })
 
 -- ---- what follows from the pair's law

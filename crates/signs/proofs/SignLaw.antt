@@ -37,8 +37,8 @@ use Rattle.signs.proofs.Laws.Faults.{fault-same, fault-same-numbers}
 use Rattle.signs.proofs.Laws.Left.{solved-sized, buffers-turned}
 
 -- ---- two solves, on any numbers that turn likewise
-module _ {c : ℕ → Bool} {t : Bool} {g : Given} {values' y' : List Float} {S : Settings} {handed handed' : List Float}
-    (turning : Turning c t g values' y' S) (numbers : HandedTurning c t (g .shape .p) handed handed') (b : Lent) where
+module _ {c : ℕ → Bool} {t : Bool} {g : Given} {values' y' : List Float} {handed handed' : List Float}
+    (turning : Turning c t g values' y') (numbers : HandedTurning c t (g .shape .p) handed handed') (S : Settings) (b : Lent) where
   abbrev g' : Given
   g' = withNumbers g values' y'
 
@@ -60,7 +60,7 @@ module _ {c : ℕ → Bool} {t : Bool} {g : Given} {values' y' : List Float} {S 
       (solved (record { n = g .shape .n; p = p; X = X'; penalty = S .penalty; prepared = take (p + p) handed' }) y' S)
   solve p X X' other ep e h k a o =
       rw (e, ← ep)
-      (solved-turned c t X other S (turning .targets) (rw (← ep) at h) (g .shape .n) (rw (← ep) at k) o (turning .off) (rw (← ep) at a))
+      (solved-turned c t X other S (turning .targets) (rw (← ep) at h) (g .shape .n) (rw (← ep) at k) o (rw (← ep) at a))
 
   runs-turned : solveFault g S handed b ≡ none → Ends (Same c t S) (solved T (g .targets) S) (solved T' y' S)
   unfolding solveFault
@@ -97,9 +97,9 @@ module _ {c : ℕ → Bool} {t : Bool} {g : Given} {values' y' : List Float} {S 
 by-seven : (g : Given) (S : Settings) (buf : List Float) (b : Lent) (place : ℕ) → prepareCall g buf ≡ refused 7 place → LeftBySeven g S buf b
 by-seven g S buf b place e = let a = as-single g S buf b in record { numbers = a .zeroed place e; others = a .untouched 7 place e }
 
-module _ (g : Given) {c σ : ℕ → Bool} {t : Bool} {values' y' : List Float} {S : Settings} (buf : List Float) (b : Lent)
+module _ (g : Given) {c σ : ℕ → Bool} {t : Bool} {values' y' : List Float} (S : Settings) (buf : List Float) (b : Lent)
     (stored : Signs σ (g .values) values') (targets : Signs (λ (i : ℕ). t) (g .targets) y')
-    (turns : preparationFault g buf ≡ none → Turning c t g values' y' S) where
+    (turns : preparationFault g buf ≡ none → Turning c t g values' y') where
   abbrev other : Given
   other = withNumbers g values' y'
 
@@ -111,7 +111,7 @@ module _ (g : Given) {c σ : ℕ → Bool} {t : Bool} {values' y' : List Float} 
   numbers-turned = left-turned g buf stored targets turns
 
   solves : prepareCall g buf ≡ none → SameSolve c t g other S (prepareLeft g buf) (prepareLeft other buf) b
-  solves e = solve-law (turns (answers g buf e .0)) (numbers-turned e) b
+  solves e = solve-law (turns (answers g buf e .0)) (numbers-turned e) S b
 
   solve-faults-same : solveFault g S (prepareLeft g buf) b ≡ solveFault other S (prepareLeft other buf) b
   solve-faults-same = go (prepareCall g buf) refl
@@ -150,6 +150,6 @@ module _ (g : Given) {c σ : ℕ → Bool} {t : Bool} {values' y' : List Float} 
     seven = λ place e. (by-seven g S buf b place e, by-seven other S buf b place (sym preparations-same ∙ e));
   }
 
-pub sign-law : {c : ℕ → Bool} {t : Bool} {g : Given} {values' y' : List Float} {S : Settings} → Turning c t g values' y' S → (buf : List Float) (b : Lent)
-    → SameCall c t g (withNumbers g values' y') S buf b
-sign-law {g = g} turning buf b = sign-law-passed g buf b (turning .stored) (turning .targets) (λ e. turning)
+pub sign-law : {c : ℕ → Bool} {t : Bool} {g : Given} {values' y' : List Float} → Turning c t g values' y'
+    → (S : Settings) (buf : List Float) (b : Lent) → SameCall c t g (withNumbers g values' y') S buf b
+sign-law {g = g} turning S buf b = sign-law-passed g S buf b (turning .stored) (turning .targets) (λ e. turning)

@@ -1,6 +1,6 @@
--- Demand 3: "turn all targets, or (extrapolation off) any set of columns, or both: same refusal and place, or same status, counts, violation and
--- working sets, and weights and fit turn as they must (a zero's own sign disregarded)". Since request 5 "demand 3 speaks of that pair": preparing and then
--- solving.
+-- Demand 3: "turn all targets, or .. any set of columns, or both: same refusal and place, or same status, counts, violation and working sets, and
+-- weights and fit turn as they must (a zero's own sign disregarded)". Since request 5 "demand 3 speaks of that pair": preparing and then solving. Since
+-- request 3 "column signs .. hold with extrapolation on as well": there is no condition on the settings.
 use mathlib.Core.Path.{_≡_}
 use mathlib.Core.Bool.{Bool, true, false}
 use mathlib.Core.List.{List, [], _∷_}
@@ -29,7 +29,7 @@ abbrev pub withNumbers : Given → List Float → List Float → Given
 withNumbers g values y = given (g .shape) (g .starts) (g .rows) values y
 
 -- the second call is given the first one's numbers turned: column j where c j is true, and the targets where t is
-pub record Turning (c : ℕ → Bool) (t : Bool) (g : Given) (values' y' : List Float) (S : Settings) : Type 0 where
+pub record Turning (c : ℕ → Bool) (t : Bool) (g : Given) (values' y' : List Float) : Type 0 where
   -- the stored values differ in signs alone, also where no column holds them
   pub signs : ℕ → Bool
   pub stored : Signs signs (g .values) values'
@@ -38,8 +38,6 @@ pub record Turning (c : ℕ → Bool) (t : Bool) (g : Given) (values' y' : List 
       → Turned (c j) (designOf g .value j k) (designOf (withNumbers g values' y') .value j k)
   -- "all targets"
   pub targets : Signs (λ (i : ℕ). t) (g .targets) y'
-  -- "(extrapolation off)": with extrapolation on, no column is turned
-  pub off : S .extrapolate ≡ true → (j : ℕ) → c j ≡ false
 
 -- as many numbers are handed to the second solve: the same p constants, and the p entries of X'y turned where column or targets are, but not both
 pub record HandedTurning (c : ℕ → Bool) (t : Bool) (p : ℕ) (handed handed' : List Float) : Type 0 where

@@ -58,13 +58,13 @@ module _ (T : Task) (y : List Float) (S : Settings) (P : Point → Type 0) (K : 
   weights-same : {w w' : List Float} → Weights itself w w' → w' ≡ w
   weights-same {w} {w'} v = sym (ext-getD nan w w' (v .size ∙ sym (v .size')) (λ i l. v .each i (rw (v .size) at l)))
 
-  entry-same : {ws : List ℕ} {kept kept' : List Float} → Rows itself ws (suc (S .depth)) kept kept' → (a b : ℕ) → a < length ws → b < length ws
-      → entry (S .depth) (T .p) kept a b ≡ entry (S .depth) (T .p) kept' a b
+  entry-same : {ws : List ℕ} {kept kept' : List Float} → Rows itself ws (suc (S .depth)) kept kept' → (k l : ℕ) → k < S .depth → l < S .depth
+      → entry (T .p) (length ws) kept k l ≡ entry (T .p) (length ws) kept' k l
   unfolding entry
-  entry-same {ws} {kept} {kept'} r a b la lb = sum-same _ _ (S .depth) (λ k l. rw (difference a la k l, difference b lb k l))
+  entry-same {ws} {kept} {kept'} r k l a b = sum-same _ _ (length ws) (λ i h. rw (step k a i h, step l b i h))
     where
-      difference : (a : ℕ) → a < length ws → (k : ℕ) → k < S .depth → U (T .p) kept k a ≡ U (T .p) kept' k a
-      difference a la k l = rw (r .each (suc k) (omega arith) a la, r .each k (omega arith) a la)
+      step : (k : ℕ) → k < S .depth → (i : ℕ) → i < length ws → U (T .p) kept k i ≡ U (T .p) kept' k i
+      step k a i h = rw (r .each (suc k) (omega arith) i h, r .each k (omega arith) i h)
 
   respects : Respects itself
   respects = record {

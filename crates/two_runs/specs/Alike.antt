@@ -83,8 +83,8 @@ pub record Respects (P : Pair) : Type 0 where
       → Epoch.fine (first P) q j ≡ true → P .point (Epoch.visited (first P) q j) (Epoch.visited (second P) q' j)
   -- the extrapolation, asked only where it is on. All its rows were kept under one working set, and the system looks at places of that set
   pub entry : P .settings .extrapolate ≡ true → {ws : List ℕ} {kept kept' : List Float} → Rows P ws (suc (P .settings .depth)) kept kept'
-      → (a b : ℕ) → a < length ws → b < length ws
-      → Extrapolation.entry (P .settings .depth) (P .p) kept a b ≡ Extrapolation.entry (P .settings .depth) (P .p) kept' a b
+      → (k l : ℕ) → k < P .settings .depth → l < P .settings .depth
+      → Extrapolation.entry (P .p) (length ws) kept k l ≡ Extrapolation.entry (P .p) (length ws) kept' k l
   pub combined : P .settings .extrapolate ≡ true → (j : ℕ) → j < P .p → (c x x' : ℕ → Float) (m : ℕ)
       → ((k : ℕ) → k < m → P .weight j (x k) (x' k)) → P .weight j (sum (λ k. c k ⊗ x k) m) (sum (λ k. c k ⊗ x' k) m)
   -- a candidate w, taken by both or by none

@@ -36,7 +36,7 @@ module _ (T : Task) (y : List Float) (K : ℕ) (ws : List ℕ) (kept : List Floa
 
   tried-few : (e : ℕ) → tried T y K e ws kept s .taken ≤ 1
   unfolding tried extrapolate fromSystem
-  tried-few e = go (due K e ws) (regular K (eliminated K (system K (T .p) kept))) (candidateOf T K ws kept (readOff K (eliminated K (system K (T .p) kept))))
+  tried-few e = let m = eliminated K (system K (T .p) (length ws) kept) in go (due K e) (regular K m) (candidateOf T K ws kept (readOff K m))
     where
       go : (b r : Bool) (new : Point) → pick b (pick r (chosen T y new s) (keeps s)) (keeps s) .taken ≤ 1
       go true true new = chosen-few new

@@ -84,9 +84,9 @@ row-left g K j ws w fit l ks a b o f e R at h q = row-kept (g .shape) K l a b j 
 
 -- and the step is tried
 pub step-tried : (g : Given) (penalty : Penalty) (K j : ℕ) (ws : List ℕ) (m n kept : List Float) (x : Point) (r : Tried)
-    → keptIn (g .shape) K m ≡ kept → j % (K + 1) ≡ K → K ≤ length ws
+    → keptIn (g .shape) K m ≡ kept → j % (K + 1) ≡ K
     → ((q : List Float) → r ≡ extrapolate (taskWith g penalty q) (g .targets) K ws (keptIn (g .shape) K m) x)
     × (keptIn (g .shape) K n ≡ keptIn (g .shape) K m)
     → ((q : List Float) → r ≡ tried (taskWith g penalty q) (g .targets) K j ws kept x) × (keptIn (g .shape) K n ≡ kept)
-step-tried g penalty K j ws m n kept x r row h k t =
-    (λ q. is-due (taskWith g penalty q) (g .targets) K j ws kept x h k r (t .0 q ∙ rw row), t .1 ∙ row)
+step-tried g penalty K j ws m n kept x r row h t =
+    (λ q. is-due (taskWith g penalty q) (g .targets) K j ws kept x h r (t .0 q ∙ rw row), t .1 ∙ row)

@@ -4,23 +4,29 @@ use mathlib.Core.Path.{_≡_, refl, ap, _∙_}
 use Prim.Native.Nat.{ℕ, suc, _+_, _-_, _*_, _≤_, _<_}
 use native.Mathlib.Nat.{le-antisymm, le-refl, le-trans, le-of-eq, mul-le-mul}
 use native.Mathlib.Omega.{arith}
-use mathlib.Core.List.{List, _++_}
+use mathlib.Core.List.{List, [], _++_}
 use lib.Dec.{ltb, eqb}
-use lib.ListN.{set, drop, replicate, length-replicate, getD-replicate}
-use lib.Ieee.{Float, nan}
+use lib.ListN.{set, drop, replicate, length-replicate, getD-replicate, List·getD-append}
+use lib.Ieee.{Float, binary64, nan}
 use borrow.Author.Tests.{lt-ltb, le-ltb, eq-eqb, ne-eqb}
 use Rattle.doubles.specs.Num.{#0, #1, at, pick}
 use Rattle.doubles.specs.Steps.{tab}
-use Rattle.doubles.proofs.Laws.Steps.{tab-more, tab-same}
+use Rattle.doubles.proofs.Laws.Product.{mul-both-ways}
+use Rattle.doubles.proofs.Laws.Signs.{sum-same}
+use Rattle.doubles.proofs.Laws.Steps.{tab-more, tab-same, length-tab, getD-tab}
 use Rattle.doubles.proofs.Laws.Parts.{tab-filled}
-use Rattle.designs.proofs.Laws.Layouts.{cell}
+use Rattle.designs.proofs.Laws.Layouts.{cell as place}
+use Rattle.elimination.specs.Elimination.{Matrix, row, cell}
+use Rattle.definition.specs.Extrapolation.{U, entry, systemRow}
+use Rattle.extrapolation.specs.declared.Kept.{Kept}
+use Rattle.extrapolation.specs.Inner.Places.{RowsAbove}
 
 -- ---- places of what is kept
 pub later : (K p k a len : ℕ) → k < K → a < p → suc K * p ≤ len → (k + 1) * p + a < len
-later K p k a len hk ha h = cell (suc K) p (k + 1) a len (omega arith) ha h
+later K p k a len hk ha h = place (suc K) p (k + 1) a len (omega arith) ha h
 
 pub sooner : (K p k a len : ℕ) → k < K → a < p → suc K * p ≤ len → k * p + a < len
-sooner K p k a len hk ha h = cell (suc K) p k a len (omega arith) ha h
+sooner K p k a len hk ha h = place (suc K) p k a len (omega arith) ha h
 
 -- zeros but for the first K places
 pub filled : {A : Type 0} (f : ℕ → A) (z : A) (n K i : ℕ) (row : List A) → K ≤ n → i ≤ K → K ≤ i → row ≡ tab f i ++ drop i (replicate n z)
@@ -44,6 +50,24 @@ row-done f K i row h a b e =
     let behind = tab-filled g l nan (K + 1) 11 refl (omega arith) in
     tab-more g l row K q #1 (omega (arith, length-replicate 11 #0)) here
     ∙ behind (λ j k m. getD-replicate 11 j #0 nan m ∙ rw (le-ltb j K (omega arith), ne-eqb j K (λ x. omega (arith, x))))
+
+-- ---- the same below the diagonal as above it: both factors of a product may change places
+entry-both-ways : (p m : ℕ) (kept : List Float) (k l : ℕ) → entry p m kept k l ≡ entry p m kept l k
+unfolding entry
+entry-both-ways p m kept k l = sum-same _ _ m (λ i h. mul-both-ways binary64 (U p kept k i) (U p kept l i))
+
+pub from-above : (s : Kept) (m : ℕ) (kept : List Float) (k : ℕ) (above : Matrix) → RowsAbove s m kept k above
+    → (l : ℕ) → l < k → k < s .depth → s .depth ≤ 10 → cell above l k ≡ entry (s .p) m kept k l
+unfolding systemRow
+from-above s m kept k above h l a b c =
+    ap (λ (r : List Float). at r k) (h .each l a) ∙ getD-tab _ 11 k nan (omega arith) ∙ rw (lt-ltb k (s .depth) b) (entry-both-ways (s .p) m kept l k)
+
+-- the rows written so far are those above the next
+pub rows-above : (s : Kept) (m : ℕ) (kept : List Float) (k : ℕ) (rows l : Matrix)
+    → rows ≡ tab (systemRow (s .depth) (s .p) m kept) k ++ l → RowsAbove s m kept k rows
+rows-above s m kept k rows l e =
+    let f : ℕ → List Float = systemRow (s .depth) (s .p) m kept in
+    record { each = λ a h. ap (λ (r : Matrix). row r a) e ∙ List·getD-append (tab f k) l [] a (rw (length-tab f k) h) ∙ getD-tab f k a [] h }
 
 -- ---- places are small
 pub places-small : (K p : ℕ) → K ≤ 10 → p ≤ 8192 → (2 * K + 2) * p ≤ 180224

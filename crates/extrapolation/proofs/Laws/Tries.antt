@@ -1,13 +1,13 @@
 -- From what the parts of the step answer to the definitions. Assumes nothing.
 use mathlib.Core.Path.{_≡_, ap, _∙_}
 use mathlib.Core.Bool.{Bool, true, false}
-use Prim.Native.Nat.{ℕ, suc, _+_, _%_, _≤_, _<_}
+use Prim.Native.Nat.{ℕ, suc, _+_, _%_, _≤_}
 use native.Mathlib.Numerals.{add-one}
 use mathlib.Core.List.{List}
 use lib.ListN.{length, getD, set}
 use lib.Ieee.{Float}
-use borrow.Author.Tests.{eq-eqb, ne-eqb, le-leb, lt-leb}
-use Rattle.doubles.specs.Num.{#0, _and_}
+use borrow.Author.Tests.{eq-eqb, ne-eqb}
+use Rattle.doubles.specs.Num.{#0}
 use Rattle.doubles.specs.Steps.{steps, tab}
 use Rattle.doubles.proofs.Laws.Steps.{steps-all}
 use Rattle.elimination.specs.Elimination.{Matrix, eliminated, regular, readOff}
@@ -37,7 +37,7 @@ tried-from T y K ws kept z c w₀ fit₀ w new old before r e eb en eo ew ec = e
 
 -- ---- by the diagonal of the system m that was eliminated
 module _ (T : Task) (y : List Float) (K : ℕ) (ws : List ℕ) (k kept : List Float) (s : Point) (a m : Matrix) (b : Bool)
-    (ek : k ≡ kept) (ea : a ≡ system K (T .p) k) (em : m ≡ eliminated K a) (eb : b ≡ regular K m) where
+    (ek : k ≡ kept) (ea : a ≡ system K (T .p) (length ws) k) (em : m ≡ eliminated K a) (eb : b ≡ regular K m) where
   of-system : fromSystem T y K ws kept s m ≡ extrapolate T y K ws kept s
   unfolding extrapolate
   of-system = rw (em, ea, ek)
@@ -53,16 +53,12 @@ module _ (T : Task) (y : List Float) (K : ℕ) (ws : List ℕ) (k kept : List Fl
 -- ---- whether the step is due
 module _ (T : Task) (y : List Float) (K e : ℕ) (ws : List ℕ) (kept : List Float) (s : Point) where
   pub not-last : (e % (K + 1) ≡ K → ⊥) → keeps s ≡ tried T y K e ws kept s
-  unfolding tried due _and_
+  unfolding tried due
   not-last h = rw (ne-eqb (e % suc K) K (rw add-one at h))
 
-  pub too-few : e % (K + 1) ≡ K → length ws < K → keeps s ≡ tried T y K e ws kept s
-  unfolding tried due _and_
-  too-few h l = rw (eq-eqb (e % suc K) K (rw add-one at h), lt-leb K (length ws) l)
-
-  pub is-due : e % (K + 1) ≡ K → K ≤ length ws → (r : Tried) → r ≡ extrapolate T y K ws kept s → r ≡ tried T y K e ws kept s
-  unfolding tried due _and_
-  is-due h l r q = rw (eq-eqb (e % suc K) K (rw add-one at h), le-leb K (length ws) l) q
+  pub is-due : e % (K + 1) ≡ K → (r : Tried) → r ≡ extrapolate T y K ws kept s → r ≡ tried T y K e ws kept s
+  unfolding tried due
+  is-due h r q = rw (eq-eqb (e % suc K) K (rw add-one at h)) q
 
 -- a scratch in which a row was written is as ready
 pub ready-again : {g : Given} {K : ℕ} {ws : List ℕ} {w fit l : List Float} (m : List Float)

@@ -1,4 +1,4 @@
--- `anderson_accel`: the row is kept, and where it is the last and there are places enough, the step is tried. Assumes nothing.
+-- `anderson_accel`: the row is kept, and where it is the last, the step is tried. Assumes nothing.
 use mathlib.Core.Path.{_≡_}
 use mathlib.Core.List.{List}
 use lib.Ieee.{Float}
@@ -7,10 +7,9 @@ use native.Mathlib.Omega.{arith}
 use Rattle.definition.specs.Extrapolation.{keptNow}
 use Rattle.extrapolation.specs.Inner.Places.{keptIn}
 use Rattle.extrapolation.proofs.Laws.Scratch.{row-small, row-room}
-use Rattle.extrapolation.proofs.Laws.Tries.{not-last, too-few, ready-again}
+use Rattle.extrapolation.proofs.Laws.Tries.{not-last, ready-again}
 use Prim.Native.Nat.{_-_}
 use Rattle.extrapolation.proofs.Laws.Step.{row-left, step-tried}
-use native.Mathlib.Nat.{le-trans}
 use borrow.Rule.Slice.PartMut.{putMid, same-len-mid}
 use borrow.Author.Needs.{needs}
 use Rattle.extrapolation.proofs.anderson_accel.Statement.{statement}
@@ -87,37 +86,26 @@ returns c = (λ q. not-last _ _ _ _ _ _ _ (c .if1 .left), row (c .before .before
 same-length-3 : tie.Need-same-length-3
 same-length-3 c = search needs
 
-same-length-4 : tie.Need-same-length-4
-same-length-4 c = search needs
-
-returns-2 : tie.Need-returns-2
-returns-2 c = (λ q. too-few _ _ _ _ _ _ _ (c .before .if1 .taken) (c .if2 .left), row (c .before .before .before .before))
-
 extrapolate-requires : tie.Need-extrapolate-requires
 extrapolate-requires c κs =
-    let places = c .before .before .before in
-    let kept = places .before .before .before .before in
+    let kept = c .before .before .before .before .before .before in
     let laid = laid-out kept in
     let start = entry laid in
     let parts = laid .lay-out .result in
     let same = same-len-mid (parts .kept) (parts .until - parts .kept) (now (start .args .scratch)) (kept .keep .last .1 .1 .1 .0) in
-    (ready-again _ (start .pre) (same (kept .keep .kept .1 .1 .1 .0)), le-trans (places .if2 .taken) (start .pre .sized .few))
+    ready-again _ (start .pre) (same (kept .keep .kept .1 .1 .1 .0))
 
 same-length-5 : tie.Need-same-length-5
 same-length-5 c = search needs
 
-same-length-6 : tie.Need-same-length-6
-same-length-6 c = search needs
+same-length-4 : tie.Need-same-length-4
+same-length-4 c = search needs
 
-same-length-7 : tie.Need-same-length-7
-same-length-7 c = search needs
-
-returns-3 : tie.Need-returns-3
-returns-3 c =
+returns-2 : tie.Need-returns-2
+returns-2 c =
     let tried = c .before .before .before .before .before .before in
-    let places = tried .before .before .before .before in
-    let last = places .before in
-    step-tried _ _ _ _ _ _ _ _ _ _ (row (last .before .before .before)) (last .if1 .taken) (places .if2 .taken) (tried .extrapolate .ensures)
+    let last = tried .before .before .before .before in
+    step-tried _ _ _ _ _ _ _ _ _ _ (row (last .before .before .before)) (last .if1 .taken) (tried .extrapolate .ensures)
 
 pub anderson-accel-spec : {M : Type 1} → statement M
 anderson-accel-spec =
@@ -135,11 +123,8 @@ anderson-accel-spec =
     same-length
     same-length-2
     returns
+    extrapolate-requires
     same-length-3
     same-length-4
-    returns-2
-    extrapolate-requires
     same-length-5
-    same-length-6
-    same-length-7
-    returns-3)
+    returns-2)

@@ -35,7 +35,7 @@ module _ (X : Design) (other : ℕ → ℕ → Float) (j : ℕ) (a t : Bool) (h 
 
   pub squares-same : squares X j ≡ squares (with-values X other) j
   unfolding squares
-  squares-same = sum-exact a (X .value j) (other j) (X .value j) (other j) (X .many j) h h
+  squares-same = sum-exact (λ (k : ℕ). a) (X .value j) (other j) (X .value j) (other j) (X .many j) h h
 
   pub moved-turned : {d d' : Float} {v v' : List Float} → Turned (unlike a t) d d' → Signs (λ (i : ℕ). t) v v'
       → Signs (λ (i : ℕ). t) (moved X j d v) (moved (with-values X other) j d' v')

@@ -29,19 +29,16 @@ unlike-back true false = refl
 unlike-back false true = refl
 unlike-back false false = refl
 
-pub unlike-none : (t : Bool) → unlike false t ≡ t
-unlike-none true = refl
-unlike-none false = refl
-
 -- ---- sums
--- of products whose factors turn together
-pub sum-exact : (s : Bool) (a a' b b' : ℕ → Float) (n : ℕ) → ((i : ℕ) → i < n → Turned s (a i) (a' i)) → ((i : ℕ) → i < n → Turned s (b i) (b' i))
+-- of products whose factors turn together, in some terms or in all
+pub sum-exact : (s : ℕ → Bool) (a a' b b' : ℕ → Float) (n : ℕ)
+    → ((i : ℕ) → i < n → Turned (s i) (a i) (a' i)) → ((i : ℕ) → i < n → Turned (s i) (b i) (b' i))
     → sum (λ i. a i ⊗ b i) n ≡ sum (λ i. a' i ⊗ b' i) n
 sum-exact s a a' b b' n p q =
     same-exact
     (sum-never (λ i. a i ⊗ b i) n (λ i l. mul-fits binary64 (a i) (b i)))
     (sum-never (λ i. a' i ⊗ b' i) n (λ i l. mul-fits binary64 (a' i) (b' i)))
-    (sum-turned (λ i. a i ⊗ b i) (λ i. a' i ⊗ b' i) n (λ i l. rw (unlike-self s) at (turned-mul binary64 (p i l) (q i l))))
+    (sum-turned (λ i. a i ⊗ b i) (λ i. a' i ⊗ b' i) n (λ i l. rw (unlike-self (s i)) at (turned-mul binary64 (p i l) (q i l))))
 
 -- ---- lists
 pub signs-each : {s : ℕ → Bool} (xs ys : List Float) → length xs ≡ length ys → ((k : ℕ) → k < length xs → Turned (s k) (at xs k) (at ys k))

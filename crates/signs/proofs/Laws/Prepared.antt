@@ -19,7 +19,6 @@ use Rattle.designs.specs.Checks.{preparationFault}
 use Rattle.designs.proofs.Laws.Layouts.{features}
 use Rattle.designs.proofs.Laws.Preparation.{length-prepared, constant-at, product-at}
 use Rattle.definition.specs.Preparation.{usable, allUsable, preparedOf, prepareCall, numbersLeft, prepareLeft}
-use Rattle.definition.specs.declared.Settings.{Settings}
 use Rattle.definition.proofs.Laws.Prepared.{left-long, left-at, answers}
 use Rattle.two_runs.proofs.Laws.Loops.{all-same}
 use Rattle.signs.specs.Turning.{withNumbers, Turning, HandedTurning}
@@ -60,9 +59,9 @@ unfolding allUsable usable
 usable-same {p = p} h = all-same _ _ p (λ j l. rw (h .constants j l, finite-turned (h .products j l)))
 
 -- ---- two preparations: the columns need to be turned only where 1 to 6 do not refuse
-module _ (g : Given) {c σ : ℕ → Bool} {t : Bool} {values' y' : List Float} {S : Settings} (buf : List Float)
+module _ (g : Given) {c σ : ℕ → Bool} {t : Bool} {values' y' : List Float} (buf : List Float)
     (stored : Signs σ (g .values) values') (targets : Signs (λ (i : ℕ). t) (g .targets) y')
-    (turns : preparationFault g buf ≡ none → Turning c t g values' y' S) where
+    (turns : preparationFault g buf ≡ none → Turning c t g values' y') where
   abbrev g' : Given
   g' = withNumbers g values' y'
 

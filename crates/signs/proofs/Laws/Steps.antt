@@ -31,7 +31,7 @@ use Rattle.two_runs.specs.Alike.{Pair, first, second, Weights, Points, FeatureS
 use Rattle.two_runs.proofs.Laws.Loops.{steps-related, ends-map}
 use Rattle.two_runs.proofs.TwoRuns.{two-solves, report-same}
 use Rattle.signs.specs.Turning.{HandedTurning, SameRun}
-use Rattle.signs.proofs.Laws.Exact.{unlike-none, sum-exact, signs-each, finite-same, signs-zeros}
+use Rattle.signs.proofs.Laws.Exact.{sum-exact, signs-each, finite-same, signs-zeros}
 use Rattle.signs.proofs.Laws.Columns.{with-values, dot-turned, moved-turned, moved-by-turned, moved-finite-same}
 
 datafit-same : {t : Bool} {y y' v v' : List Float} → Signs (λ (i : ℕ). t) y y' → Signs (λ (i : ℕ). t) v v'
@@ -39,7 +39,7 @@ datafit-same : {t : Bool} {y y' v v' : List Float} → Signs (λ (i : ℕ). t) y
 unfolding datafit squaredError
 datafit-same {t} {y} {y'} {v} {v'} p q =
     let d : (i : ℕ) → i < length y → Turned t (at y i ⊖ at v i) (at y' i ⊖ at v' i) = λ i l. turned-sub binary64 (signs-at p i) (signs-at q i) in
-    rw (← signs-length p) (ap (λ (x : Float). x ⊘ count (2 * length y)) (sum-exact t _ _ _ _ (length y) d d))
+    rw (← signs-length p) (ap (λ (x : Float). x ⊘ count (2 * length y)) (sum-exact (λ (i : ℕ). t) _ _ _ _ (length y) d d))
 
 -- what demand 3 names of two runs that are alike, and their reports as a whole
 abbrev pub Same : (ℕ → Bool) → Bool → Settings → State → State → Type 0
@@ -92,8 +92,16 @@ module _ (c : ℕ → Bool) (t : Bool) (X : Design) (other : ℕ → ℕ → Flo
       steps-related (λ (k : ℕ). Signs (λ (i : ℕ). t)) _ _ (length ws) _ _ (signs-zeros (λ (i : ℕ). t) (X .n))
       (λ k l f f' r. let j = getD ws k 0 in moved-turned X other j (c j) t (λ i m. entries j i (C .each k l) m) (v .each j (C .each k l)) r)
 
-  module _ (odd : Odd (S .penalty)) (flat : S .extrapolate ≡ true → (j : ℕ) → c j ≡ false)
-      (passed : (j : ℕ) → j < X .p → acceptableAt (X .p) (first turning .prepared) j ≡ true) where
+  -- ---- the rows that are kept: both steps of a pair turn with the feature of a place, so its entry is the same
+  entry-same : {ws : List ℕ} {kept kept' : List Float} → Rows turning ws (suc (S .depth)) kept kept' → (k l : ℕ) → k < S .depth → l < S .depth
+      → entry (X .p) (length ws) kept k l ≡ entry (X .p) (length ws) kept' k l
+  unfolding entry
+  entry-same {ws} {kept} {kept'} r k l a b = sum-exact (λ (i : ℕ). unlike (c (getD ws i 0)) t) _ _ _ _ (length ws) (step k a) (step l b)
+    where
+      step : (k : ℕ) → k < S .depth → (i : ℕ) → i < length ws → Turned (unlike (c (getD ws i 0)) t) (U (X .p) kept k i) (U (X .p) kept' k i)
+      step k a i h = turned-sub binary64 (r .each (suc k) (omega arith) i h) (r .each k (omega arith) i h)
+
+  module _ (odd : Odd (S .penalty)) (passed : (j : ℕ) → j < X .p → acceptableAt (X .p) (first turning .prepared) j ≡ true) where
     violation-same : {q q' : Point} → Points turning q q' → (j : ℕ) → j < X .p
         → violationOf (first turning) (q .weights) (q .fit) j ≡ violationOf (second turning) (q' .weights) (q' .fit) j
     unfolding violationOf
@@ -141,16 +149,6 @@ module _ (c : ℕ → Bool) (t : Bool) (X : Design) (other : ℕ → ℕ → Flo
         let f = fit-of C v in
         rw (objective-same (signs-of v) f, objective-same (signs-of (r .weights)) (r .other), finite-same (signs-of v), finite-same f)
 
-    entry-same : S .extrapolate ≡ true → {ws : List ℕ} {kept kept' : List Float} → Rows turning ws (suc (S .depth)) kept kept'
-        → (a b : ℕ) → a < length ws → b < length ws → entry (S .depth) (X .p) kept a b ≡ entry (S .depth) (X .p) kept' a b
-    unfolding entry
-    entry-same on {ws} {kept} {kept'} r a b la lb = sum-exact t _ _ _ _ (S .depth) (difference-at a la) (difference-at b lb)
-      where
-        -- with no column turned, all weights turn as the targets
-        difference-at : (a : ℕ) → a < length ws → (k : ℕ) → k < S .depth → Turned t (U (X .p) kept k a) (U (X .p) kept' k a)
-        difference-at a la k l =
-            rw (flat on (getD ws a 0), unlike-none t) at (turned-sub binary64 (r .each (suc k) (omega arith) a la) (r .each k (omega arith) a la))
-
     respects : Respects turning
     respects = record {
       nothing = λ j l. zero-turned (unlike (c j) t);
@@ -162,7 +160,7 @@ module _ (c : ℕ → Bool) (t : Bool) (X : Design) (other : ℕ → ℕ → Flo
       fine = fine-same;
       weight = λ r j l z f. new-weight r j l z;
       visited = λ r j l z f. visited-fit r j l z;
-      entry = entry-same;
+      entry = λ on r. entry-same r;
       combined = λ on j l a x x' m h. sum-turned _ _ m (λ k o. turned-times (a k) (h k o));
       better = λ on C v r. better-same C v r;
       taken = λ on C v r b. fit-of C v;
@@ -184,7 +182,6 @@ module _ (c : ℕ → Bool) (t : Bool) (X : Design) (other : ℕ → ℕ → Flo
       } in
       (run, r)
 
-  pub solved-turned : Odd (S .penalty) → (S .extrapolate ≡ true → (j : ℕ) → c j ≡ false)
-      → ((j : ℕ) → j < X .p → acceptableAt (X .p) (first turning .prepared) j ≡ true)
+  pub solved-turned : Odd (S .penalty) → ((j : ℕ) → j < X .p → acceptableAt (X .p) (first turning .prepared) j ≡ true)
       → Ends (Same c t S) (solved (first turning) y S) (solved (second turning) y' S)
-  solved-turned odd flat passed = ends-map same-run (two-solves turning (respects odd flat passed))
+  solved-turned odd passed = ends-map same-run (two-solves turning (respects odd passed))

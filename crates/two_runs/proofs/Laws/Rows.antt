@@ -4,16 +4,15 @@ use mathlib.Core.Path.{_≡_, refl, _∙_}
 use mathlib.Core.Bool.{true}
 use mathlib.Core.List.{List}
 use Prim.Native.Nat.{ℕ, suc, _+_, _*_, _%_, _≤_, _<_}
-use native.Mathlib.Nat.{mod-lt, mod-le, suc-mod, suc-mul, zero-lt-suc, mul-le-mul-right, le-trans}
+use native.Mathlib.Nat.{mod-lt, mod-le, suc-mod, suc-mul, zero-lt-suc, mul-le-mul-right}
 use native.Mathlib.Omega.{arith}
-use lib.Dec.{leb, eqb, ltb}
+use lib.Dec.{ltb}
 use lib.ListN.{length, getD}
 use lib.Ieee.{Float, nan}
 use borrow.Author.Count.{below-more}
-use borrow.Author.Tests.{leb-true, ltb-true, eqb-true}
+use borrow.Author.Tests.{ltb-true, eqb-true}
 use Rattle.doubles.specs.Num.{at}
 use Rattle.doubles.proofs.Laws.Buffer.{length-put, put-before, put-in}
-use Rattle.doubles.proofs.Laws.Choice.{and-both}
 use Rattle.doubles.proofs.Laws.Steps.{tab-same, length-tab, getD-tab}
 use Rattle.elimination.specs.Elimination.{Matrix, regular, readOff, eliminated}
 use Rattle.definition.specs.Epoch.{Point}
@@ -77,28 +76,27 @@ module _ (P : Pair) (K : ℕ) {ws : List ℕ} (C : FeatureSet (P .p) ws) (e : �
         r (omega arith);
   }
 
--- where the step is due, the row just kept was the last, and the working set has a place to each row of the system
-due-last : (K e : ℕ) (ws : List ℕ) → due K e ws ≡ true → (e % suc K ≡ K) × (K ≤ length ws)
+-- where the step is due, the row just kept was the last
+due-last : (K e : ℕ) → due K e ≡ true → e % suc K ≡ K
 unfolding due
-due-last K e ws h = let b = and-both (eqb (e % suc K) K) (leb K (length ws)) h in (eqb-true (e % suc K) K (b .0), leb-true K (length ws) (b .1))
+due-last K e h = eqb-true (e % suc K) K h
 
 module _ (P : Pair) (H : Respects P) (on : P .settings .extrapolate ≡ true) {ws : List ℕ} (C : FeatureSet (P .p) ws) where
   abbrev K : ℕ
   K = P .settings .depth
 
   -- ---- the system
-  module _ {kept kept' : List Float} (r : Rows P ws (suc K) kept kept') (places : K ≤ length ws) where
-    row-same : (a : ℕ) → a < K → systemRow K (P .p) kept a ≡ systemRow K (P .p) kept' a
+  module _ {kept kept' : List Float} (r : Rows P ws (suc K) kept kept') where
+    row-same : (k : ℕ) → k < K → systemRow K (P .p) (length ws) kept k ≡ systemRow K (P .p) (length ws) kept' k
     unfolding systemRow
-    row-same a l =
+    row-same k a =
         tab-same _ _ 11
-        (λ b m. related (λ (x y : Float). x ≡ y) {b = ltb b K} refl
-        (λ h. H .entry on r a b (le-trans l places) (le-trans (ltb-true b K h) places)) (λ h. refl))
+        (λ l b. related (λ (x y : Float). x ≡ y) {b = ltb l K} refl (λ h. H .entry on r k l a (ltb-true l K h)) (λ h. refl))
 
-    system-same : system K (P .p) kept ≡ system K (P .p) kept'
+    system-same : system K (P .p) (length ws) kept ≡ system K (P .p) (length ws) kept'
     unfolding system
     system-same =
-        tab-same _ _ 10 (λ a l. related (λ (x y : List Float). x ≡ y) {b = ltb a K} refl (λ h. row-same a (ltb-true a K h)) (λ h. refl))
+        tab-same _ _ 10 (λ k l. related (λ (x y : List Float). x ≡ y) {b = ltb k K} refl (λ h. row-same k (ltb-true k K h)) (λ h. refl))
 
     -- ---- the candidate
     combined-related : (c : List Float) (i : ℕ) → i < length ws → P .weight (getD ws i 0) (combined K (P .p) kept c i) (combined K (P .p) kept' c i)
@@ -130,12 +128,10 @@ module _ (P : Pair) (H : Respects P) (on : P .settings .extrapolate ≡ true) {w
 
       extrapolate-related : Tries P (extrapolate (first P) (P .y) K ws kept q) (extrapolate (second P) (P .y') K ws kept' q')
       unfolding extrapolate
-      extrapolate-related = rw (← system-same) (from-system (eliminated K (system K (P .p) kept)))
+      extrapolate-related = rw (← system-same) (from-system (eliminated K (system K (P .p) (length ws) kept)))
 
   pub tried-related : (e : ℕ) {kept kept' : List Float} → Rows P ws (suc (e % suc K)) kept kept' → {q q' : Point} → Points P q q'
       → Tries P (tried (first P) (P .y) K e ws kept q) (tried (second P) (P .y') K e ws kept' q')
   unfolding tried
   tried-related e r u =
-      related (Tries P) {b = due K e ws} refl
-      (λ d. let z = due-last K e ws d in extrapolate-related (rw (z .0) at r) (z .1) u)
-      (λ d. keeps-related P u)
+      related (Tries P) {b = due K e} refl (λ d. extrapolate-related (rw (due-last K e d) at r) u) (λ d. keeps-related P u)

@@ -1,5 +1,5 @@
--- Why columns turn only with extrapolation off: a run of two columns whose second is turned takes an extrapolation that the other run does not. The
--- entries of the system off its diagonal turn, so its solution is another one. The checker computes both pairs of calls. Assumes nothing.
+-- Columns turned with extrapolation on: two columns and three epochs at depth 2, and the same with the second column turned. Each takes one extrapolation,
+-- so that the law is not empty there; with document 01's matrix only the second run took one. The checker computes both pairs of calls. Assumes nothing.
 use mathlib.Core.Path.{_≡_, refl}
 use mathlib.Core.Bool.{true}
 use mathlib.Core.List.{List, [], _∷_}
@@ -40,7 +40,7 @@ takes x z =
     (record { penalty = L1 #0; tolerance = #0; start = 2; iterations = 1; epochs = 3; extrapolate = true; depth = 2 })
     (zeros 4) (lent (zeros 2) (zeros 2) (tab (λ k. 0) 2) (zeros 16)))
 
-pub off-is-needed : (takes #1 #2 ≡ 0 ∷ []) × (takes (neg #1) (neg #2) ≡ 1 ∷ [])
+pub one-each : (takes #1 #2 ≡ 1 ∷ []) × (takes (neg #1) (neg #2) ≡ 1 ∷ [])
 unfolding
     neg add sub mul div lt eq le ofInt ofBits isNan round fsum fsize units odd _and_ _or_ abs signum finite larger put steps upward downward
     soft01 soft sumAbs value proxL1 prox excess violationL1 violation reduced cleared clearedBelow echelon clearedAbove backSubstituted regular readOff
@@ -51,4 +51,4 @@ unfolding
     start run lengths sizes notFinite numbers contents sizedFault admitted preparationFault alphaLegal secondLegal penaltyFault
     usable allUsable prepareCall numbersLeft prepareLeft startLegal depthLegal settingsFault scratchRoom roomy acceptable handedFault earlyFault
     solveTests solveFault solved solveEnd pairEnd takes
-off-is-needed = (refl, refl)
+one-each = (refl, refl)
