@@ -1,5 +1,4 @@
 -- Laws on the definitions of the extrapolation.
-pub mod System
 pub mod Scratch
 pub mod Tries
 pub mod Step

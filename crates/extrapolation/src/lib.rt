@@ -1,5 +1,4 @@
-// Inner functions of the extrapolation. Of the scratch, `kept` holds K+1 rows of p places: row r has the working set's weights, in its order,
-// from place r·p on.
+// Inner functions of the extrapolation: the candidate, and whether it is taken.
 ghost use mathlib.Core.Path.{_≡_};
 ghost use Prim.Native.Nat.{ℕ, suc, _+_, _*_, _<_, _≤_};
 ghost use lib.Ieee.{lt};
@@ -17,89 +16,17 @@ use columns::clear;
 use columns::extrapolated_fit;
 use columns::feature_of;
 use columns::set_weight;
-use columns::weight;
 use designs::Shape;
 use elimination::inner::eliminate;
 use elimination::inner::is_regular;
 use elimination::inner::read_off;
+use history::Kept;
+use history::combined;
+use history::keep;
+use history::system;
 use penalties::inner::value as penalty_value;
 use penalties::separable::Penalty;
 use quadratic::value as datafit_value;
-
-// The depth K, and the length of a row of what is kept.
-pub struct Kept {
-    pub depth: usize,
-    pub p: usize,
-}
-
-// ---- the system
-
-// Step k at place i of the working set: the difference of two rows.
-fn difference(kept: &[f64], shape: Kept, k: usize, i: usize) -> f64
-    requires { ⌜ (k < shape .depth) × (i < shape .p) × (suc (shape .depth) * shape .p ≤ length (now kept)) ⌝ }
-    ensures { λ r. ⌜ r ≡ ext.U (shape .p) (now (kept .entry)) k i ⌝ }
-{
-    let p = shape.p;
-    kept[(k + 1) * p + i] - kept[k * p + i]
-}
-
-// Steps k and l paired: the sum of U[k,i]·U[l,i] over the places of a working set of that size, in their order. A row's places lie side by side, so
-// that the sum streams.
-fn entry(kept: &[f64], shape: Kept, size: usize, k: usize, l: usize) -> f64
-    requires { ⌜ (k < shape .depth) × (l < shape .depth) × (size ≤ shape .p) × (suc (shape .depth) * shape .p ≤ length (now kept)) ⌝ }
-    ensures { λ r. ⌜ r ≡ ext.entry (shape .p) size (now (kept .entry)) k l ⌝ }
-{
-    let mut s = 0.0;
-    let mut i = 0;
-    while i < size {
-        s = s + difference(kept, shape, k, i) * difference(kept, shape, l, i);
-        i += 1;
-    }
-    s
-}
-
-// Entry (k,l), where the rows above row k stand in the system: a pair is the same both ways, and is summed once.
-fn paired(kept: &[f64], shape: Kept, size: usize, above: [[f64; 11]; 10], k: usize, l: usize) -> f64
-    requires { ⌜ (k < shape .depth) × (l < shape .depth) × (shape .depth ≤ 10) × (size ≤ shape .p)
-        × (suc (shape .depth) * shape .p ≤ length (now kept))
-        × places.RowsAbove shape size (now kept) k above ⌝ }
-    ensures { λ r. ⌜ r ≡ ext.entry (shape .p) size (now (kept .entry)) k l ⌝ }
-{
-    if l < k {
-        return above[l][k];
-    }
-    entry(kept, shape, size, k, l)
-}
-
-fn system_row(kept: &[f64], shape: Kept, size: usize, above: [[f64; 11]; 10], k: usize) -> [f64; 11]
-    requires { ⌜ (k < shape .depth) × (shape .depth ≤ 10) × (size ≤ shape .p) × (suc (shape .depth) * shape .p ≤ length (now kept))
-        × places.RowsAbove shape size (now kept) k above ⌝ }
-    ensures { λ r. ⌜ r ≡ ext.systemRow (shape .depth) (shape .p) size (now (kept .entry)) k ⌝ }
-{
-    let depth = shape.depth;
-    let mut row = [0.0; 11];
-    let mut l = 0;
-    while l < depth {
-        row[l] = paired(kept, shape, size, above, k, l);
-        l += 1;
-    }
-    row[depth] = 1.0;
-    row
-}
-
-fn system(kept: &[f64], shape: Kept, size: usize) -> [[f64; 11]; 10]
-    requires { ⌜ (shape .depth ≤ 10) × (size ≤ shape .p) × (suc (shape .depth) * shape .p ≤ length (now kept)) ⌝ }
-    ensures { λ r. ⌜ r ≡ ext.system (shape .depth) (shape .p) size (now (kept .entry)) ⌝ }
-{
-    let mut m = [[0.0; 11]; 10];
-    let mut k = 0;
-    while k < shape.depth {
-        let row = system_row(kept, shape, size, m, k);
-        m[k] = row;
-        k += 1;
-    }
-    m
-}
 
 // ---- the candidate
 
@@ -129,21 +56,6 @@ fn coefficients(z: [f64; 10], depth: usize) -> [f64; 10]
         k += 1;
     }
     c
-}
-
-// Place i of the candidate: the sum of c_k·row_k over the first K rows.
-fn combined(kept: &[f64], shape: Kept, c: [f64; 10], i: usize) -> f64
-    requires { ⌜ (i < shape .p) × (shape .depth ≤ 10) × (suc (shape .depth) * shape .p ≤ length (now kept)) ⌝ }
-    ensures { λ r. ⌜ r ≡ ext.combined (shape .depth) (shape .p) (now (kept .entry)) c i ⌝ }
-{
-    let p = shape.p;
-    let mut s = 0.0;
-    let mut k = 0;
-    while k < shape.depth {
-        s = s + c[k] * kept[k * p + i];
-        k += 1;
-    }
-    s
 }
 
 // The candidate takes the place of the weights, zero outside the working set.
@@ -198,18 +110,6 @@ fn copy(from: &[f64], to: &mut [f64])
 }
 
 // ---- the step
-
-// The working set's weights become the row of what is kept that begins at base.
-fn keep(ws: &[u32], w: &[f64], base: usize, kept: &mut [f64])
-    requires { ⌜ ((k : ℕ) → k < length (now ws) → getD (now ws) k 0 < length (now w)) × (base + length (now ws) ≤ length (now kept)) ⌝ }
-    ensures { λ _. ⌜ now (kept .exit) ≡ put (now (kept .entry)) base (ext.gathered (now (ws .entry)) (now (w .entry))) ⌝ }
-{
-    let mut i = 0;
-    while i < ws.len() {
-        kept[base + i] = weight(w, feature_of(ws, i));
-        i += 1;
-    }
-}
 
 // Where the parts of the scratch begin that the extrapolation uses: behind the violations come K+1 rows of p places, K rows that stay
 // zero (the differences are taken where they are used), the weights as they were, and the candidate's fit.

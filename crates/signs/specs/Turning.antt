@@ -2,7 +2,7 @@
 -- weights and fit turn as they must (a zero's own sign disregarded)". Since request 5 "demand 3 speaks of that pair": preparing and then solving. Since
 -- request 3 "column signs .. hold with extrapolation on as well": there is no condition on the settings.
 use mathlib.Core.Path.{_≡_}
-use mathlib.Core.Bool.{Bool, true, false}
+use mathlib.Core.Bool.{Bool, false}
 use mathlib.Core.List.{List, [], _∷_}
 use Prim.Native.Nat.{ℕ, suc, _+_, _%_, _<_}
 use lib.Dec.{leb}

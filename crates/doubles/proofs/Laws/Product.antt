@@ -1,7 +1,7 @@
 -- A product is the same both ways, bit for bit. Assumes nothing.
 use mathlib.Core.Path.{_≡_, refl}
 use mathlib.Core.Bool.{Bool, true, false}
-use Prim.Native.Nat.{ℕ, _*_}
+use Prim.Native.Nat.{_*_}
 use native.Mathlib.Nat.{mul-comm}
 use lib.Ieee.{Float, nan, inf, fin, Format, unlike, mul, up, down}
 

@@ -2,7 +2,7 @@
 use mathlib.Core.Path.{_≡_, refl, sym, ap, _∙_}
 use Prim.Native.Nat.{ℕ, suc, _+_, _-_, _*_, _%_, _≤_, _<_}
 use native.Mathlib.Numerals.{add-one}
-use native.Mathlib.Nat.{le-of-eq, le-trans, suc-mul, mul-le-mul-right, mod-lt, zero-lt-suc}
+use native.Mathlib.Nat.{le-of-eq, le-trans, suc-mul, mul-le-mul, mul-le-mul-right, mod-lt, zero-lt-suc}
 use native.Mathlib.Omega.{arith}
 use borrow.Rule.Slice.PartMut.{putMid}
 use mathlib.Core.List.{List}
@@ -16,7 +16,6 @@ use Rattle.designs.specs.declared.Shape.{Shape}
 use Rattle.designs.proofs.Laws.Layouts.{row-inside}
 use Rattle.definition.specs.Extrapolation.{gathered, keptNow}
 use Rattle.extrapolation.specs.Inner.Places.{keptIn, oldAt, fitAt}
-use Rattle.extrapolation.proofs.Laws.System.{rows-small}
 
 -- ---- sizes
 pub old-behind : (K p : ℕ) → p + suc K * p ≤ (2 * K + 2) * p
@@ -27,6 +26,12 @@ old-behind K p =
 
 pub room-split : (K p n : ℕ) → (2 * K + 3) * p + n ≡ (2 * K + 2) * p + p + n
 room-split K p n = let q : 2 * K + 3 ≡ suc (2 * K + 2) = omega arith in rw (q, suc-mul (2 * K + 2) p)
+
+pub places-small : (K p : ℕ) → K ≤ 10 → p ≤ 8192 → (2 * K + 2) * p ≤ 180224
+places-small K p h k = let a : 2 * K + 2 ≤ 22 = omega arith in le-trans (mul-le-mul a k) (le-of-eq refl)
+
+pub rows-small : (K p : ℕ) → K ≤ 10 → p ≤ 8192 → (K + 1) * p ≤ 90112
+rows-small K p h k = let a : K + 1 ≤ 11 = omega arith in le-trans (mul-le-mul a k) (le-of-eq refl)
 
 -- ---- of a shape and a depth
 module _ (s : Shape) (K : ℕ) where

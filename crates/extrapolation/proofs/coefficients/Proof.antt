@@ -6,7 +6,7 @@ use native.Mathlib.Omega.{arith}
 use Rattle.doubles.specs.Steps.{tab}
 use Rattle.doubles.proofs.Laws.Steps.{tab-none, tab-more}
 use Rattle.definition.specs.Extrapolation.{coefficients}
-use Rattle.extrapolation.proofs.Laws.System.{filled}
+use Rattle.history.proofs.Laws.System.{filled}
 use mathlib.Core.List.{_++_}
 use Rattle.doubles.specs.Num.{_⊘_, at}
 use borrow.Author.Needs.{needs}

@@ -2,7 +2,7 @@
 use native.Mathlib.Omega.{arith}
 use mathlib.Core.Path.{refl}
 use native.Mathlib.Numerals.{add-one}
-use Rattle.extrapolation.proofs.Laws.System.{places-small, rows-small}
+use Rattle.extrapolation.proofs.Laws.Scratch.{places-small, rows-small}
 use borrow.Author.Needs.{needs}
 use Rattle.extrapolation.proofs.lay_out.Statement.{statement}
 use Rattle.extrapolation.proofs.lay_out.Tie as tie

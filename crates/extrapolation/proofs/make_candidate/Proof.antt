@@ -2,8 +2,7 @@
 use Prim.Native.Nat.{_+_, _*_, _≤_}
 use native.Mathlib.Omega.{arith}
 use Rattle.doubles.proofs.Laws.Parts.{part-long}
-use Rattle.extrapolation.proofs.Laws.Scratch.{kept-long}
-use Rattle.extrapolation.proofs.Laws.System.{places-small}
+use Rattle.extrapolation.proofs.Laws.Scratch.{kept-long, places-small}
 use Rattle.extrapolation.proofs.Laws.Step.{made}
 use borrow.Author.Needs.{needs}
 use Rattle.extrapolation.proofs.make_candidate.Statement.{statement}

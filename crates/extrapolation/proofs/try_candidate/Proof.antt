@@ -1,7 +1,7 @@
 -- `try_candidate`: the candidate and its fit are made, and the choice reads both points. Assumes nothing.
 use Prim.Native.Nat.{_+_, _*_, _≤_}
 use native.Mathlib.Omega.{arith}
-use Rattle.extrapolation.proofs.Laws.System.{places-small}
+use Rattle.extrapolation.proofs.Laws.Scratch.{places-small}
 use Rattle.extrapolation.proofs.Laws.Step.{choose-asks, chosen-here}
 use borrow.Author.Needs.{needs}
 use Rattle.extrapolation.proofs.try_candidate.Statement.{statement}

@@ -10,17 +10,11 @@ use Rattle.designs.specs.Given.{Given}
 use Rattle.designs.specs.Inner.Sound.{Whole}
 use Rattle.designs.specs.declared.Shape.{Shape}
 use Rattle.definition.specs.Epoch.{Task, task, Point}
-use Rattle.elimination.specs.Elimination.{Matrix, row}
-use Rattle.extrapolation.specs.declared.Kept.{Kept}
-use Rattle.definition.specs.Extrapolation.{Tried, systemRow, keptNow, keeps, objectiveOf, allFinite, chosen, candidateOf}
+use Rattle.definition.specs.Extrapolation.{Tried, keptNow, keeps, objectiveOf, allFinite, chosen, candidateOf}
 
 -- the extrapolation never looks at the prepared numbers: what it promises holds for any
 abbrev pub taskWith : Given → Penalty → List Float → Task
 taskWith g penalty prepared = task (g .shape) (g .starts) (g .rows) (g .values) penalty prepared
-
--- of a system that is being filled: the rows above row k are there
-pub record RowsAbove (s : Kept) (m : ℕ) (kept : List Float) (k : ℕ) (above : Matrix) : Type 0 where
-  pub each : (a : ℕ) → a < k → row above a ≡ systemRow (s .depth) (s .p) m kept a
 
 -- what is kept: K+1 rows of p places behind the violations
 unfoldable pub keptIn : Shape → ℕ → List Float → List Float

@@ -6,11 +6,11 @@ use native.Mathlib.Omega.{arith}
 use Rattle.doubles.specs.Steps.{tab, steps}
 use Rattle.doubles.proofs.Laws.Steps.{tab-none, tab-more}
 use Rattle.definition.specs.Extrapolation.{systemRow, system}
-use Rattle.extrapolation.proofs.Laws.System.{filled, rows-above}
+use Rattle.history.proofs.Laws.System.{filled, rows-above}
 use mathlib.Core.List.{_++_}
 use borrow.Author.Needs.{needs}
-use Rattle.extrapolation.proofs.system.Statement.{statement}
-use Rattle.extrapolation.proofs.system.Tie as tie
+use Rattle.history.proofs.system.Statement.{statement}
+use Rattle.history.proofs.system.Tie as tie
 
 abbrev Inv-loop : tie.InvT-loop
 Inv-loop kept shape size m₀ k₀ m k = (k ≤ shape .depth) × (length m₀ ≡ 10) × (m ≡ tab (systemRow (shape .depth) (shape .p) size kept) k ++ drop k m₀)

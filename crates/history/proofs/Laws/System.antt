@@ -2,7 +2,7 @@
 -- lies. Assumes nothing.
 use mathlib.Core.Path.{_≡_, refl, ap, _∙_}
 use Prim.Native.Nat.{ℕ, suc, _+_, _-_, _*_, _≤_, _<_}
-use native.Mathlib.Nat.{le-antisymm, le-refl, le-trans, le-of-eq, mul-le-mul}
+use native.Mathlib.Nat.{le-antisymm, le-refl}
 use native.Mathlib.Omega.{arith}
 use mathlib.Core.List.{List, [], _++_}
 use lib.Dec.{ltb, eqb}
@@ -18,15 +18,12 @@ use Rattle.doubles.proofs.Laws.Parts.{tab-filled}
 use Rattle.designs.proofs.Laws.Layouts.{cell as place}
 use Rattle.elimination.specs.Elimination.{Matrix, row, cell}
 use Rattle.definition.specs.Extrapolation.{U, entry, systemRow}
-use Rattle.extrapolation.specs.declared.Kept.{Kept}
-use Rattle.extrapolation.specs.Inner.Places.{RowsAbove}
+use Rattle.history.specs.declared.Kept.{Kept}
+use Rattle.history.specs.Inner.Filling.{RowsAbove}
 
--- ---- places of what is kept
-pub later : (K p k a len : ℕ) → k < K → a < p → suc K * p ≤ len → (k + 1) * p + a < len
-later K p k a len hk ha h = place (suc K) p (k + 1) a len (omega arith) ha h
-
-pub sooner : (K p k a len : ℕ) → k < K → a < p → suc K * p ≤ len → k * p + a < len
-sooner K p k a len hk ha h = place (suc K) p k a len (omega arith) ha h
+-- ---- a place of what is kept
+pub kept-place : (K p r i len : ℕ) → r ≤ K → i < p → suc K * p ≤ len → r * p + i < len
+kept-place K p r i len hr hi h = place (suc K) p r i len (omega arith) hi h
 
 -- zeros but for the first K places
 pub filled : {A : Type 0} (f : ℕ → A) (z : A) (n K i : ℕ) (row : List A) → K ≤ n → i ≤ K → K ≤ i → row ≡ tab f i ++ drop i (replicate n z)
@@ -68,10 +65,3 @@ pub rows-above : (s : Kept) (m : ℕ) (kept : List Float) (k : ℕ) (rows l : Ma
 rows-above s m kept k rows l e =
     let f : ℕ → List Float = systemRow (s .depth) (s .p) m kept in
     record { each = λ a h. ap (λ (r : Matrix). row r a) e ∙ List·getD-append (tab f k) l [] a (rw (length-tab f k) h) ∙ getD-tab f k a [] h }
-
--- ---- places are small
-pub places-small : (K p : ℕ) → K ≤ 10 → p ≤ 8192 → (2 * K + 2) * p ≤ 180224
-places-small K p h k = let a : 2 * K + 2 ≤ 22 = omega arith in le-trans (mul-le-mul a k) (le-of-eq refl)
-
-pub rows-small : (K p : ℕ) → K ≤ 10 → p ≤ 8192 → (K + 1) * p ≤ 90112
-rows-small K p h k = let a : K + 1 ≤ 11 = omega arith in le-trans (mul-le-mul a k) (le-of-eq refl)

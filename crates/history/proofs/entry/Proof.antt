@@ -6,14 +6,14 @@ use Rattle.doubles.specs.Steps.{sum}
 use Rattle.doubles.proofs.Laws.Steps.{steps-none, steps-turn, steps-all}
 use Rattle.definition.specs.Extrapolation.{U, entry}
 use borrow.Author.Needs.{needs}
-use Rattle.extrapolation.proofs.entry.Statement.{statement}
-use Rattle.extrapolation.proofs.entry.Tie as tie
+use Rattle.history.proofs.entry.Statement.{statement}
+use Rattle.history.proofs.entry.Tie as tie
 
 abbrev Inv-loop : tie.InvT-loop
-Inv-loop kept shape size k l s₀ i₀ s i = (i ≤ size) × (s ≡ sum (λ j. U (shape .p) kept k j ⊗ U (shape .p) kept l j) i)
+Inv-loop kept shape size k l s₀ place₀ s place = (place ≤ size) × (s ≡ sum (λ j. U (shape .p) kept k j ⊗ U (shape .p) kept l j) place)
 
 abbrev μ-loop : tie.MeasureT-loop
-μ-loop kept shape size k l s₀ i₀ s i = size - i
+μ-loop kept shape size k l s₀ place₀ s place = size - place
 
 loop-holds : tie.Need-loop-holds Inv-loop μ-loop
 loop-holds c = (search needs, steps-none _ _)
@@ -24,8 +24,8 @@ difference-requires c κs = search needs
 difference-requires-2 : tie.Need-difference-requires-2 Inv-loop μ-loop
 difference-requires-2 c κs = search needs
 
-add-i : tie.Need-add-i Inv-loop μ-loop
-add-i c = search needs
+add-place : tie.Need-add-place Inv-loop μ-loop
+add-place c = search needs
 
 loop-less : tie.Need-loop-less Inv-loop μ-loop
 loop-less c = search needs
@@ -49,7 +49,7 @@ entry-spec =
     loop-holds
     difference-requires
     difference-requires-2
-    add-i
+    add-place
     loop-less
     loop-again
     returns)

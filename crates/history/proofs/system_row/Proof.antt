@@ -6,11 +6,11 @@ use native.Mathlib.Omega.{arith}
 use Rattle.doubles.specs.Steps.{tab}
 use Rattle.doubles.proofs.Laws.Steps.{tab-none, tab-more}
 use Rattle.definition.specs.Extrapolation.{entry, systemRow}
-use Rattle.extrapolation.proofs.Laws.System.{row-done}
+use Rattle.history.proofs.Laws.System.{row-done}
 use mathlib.Core.List.{_++_}
 use borrow.Author.Needs.{needs}
-use Rattle.extrapolation.proofs.system_row.Statement.{statement}
-use Rattle.extrapolation.proofs.system_row.Tie as tie
+use Rattle.history.proofs.system_row.Statement.{statement}
+use Rattle.history.proofs.system_row.Tie as tie
 
 abbrev Inv-loop : tie.InvT-loop
 Inv-loop kept shape size above k depth row₀ l₀ row l = (l ≤ shape .depth) × (length row₀ ≡ 11) × (row ≡ tab (entry (shape .p) size kept k) l ++ drop l row₀)

@@ -1,8 +1,8 @@
 -- `paired`: below the diagonal the entry stands in a row above, the other way round. Assumes nothing.
-use Rattle.extrapolation.proofs.Laws.System.{from-above}
+use Rattle.history.proofs.Laws.System.{from-above}
 use borrow.Author.Needs.{needs}
-use Rattle.extrapolation.proofs.paired.Statement.{statement}
-use Rattle.extrapolation.proofs.paired.Tie as tie
+use Rattle.history.proofs.paired.Statement.{statement}
+use Rattle.history.proofs.paired.Tie as tie
 
 mul-result : tie.Need-mul-result
 mul-result c = search needs

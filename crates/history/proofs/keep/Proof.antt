@@ -10,8 +10,8 @@ use lib.Ieee.{nan}
 use Rattle.doubles.specs.Buffer.{put}
 use Rattle.doubles.proofs.Laws.Buffer.{put-none, put-more, put-all}
 use borrow.Author.Needs.{needs}
-use Rattle.extrapolation.proofs.keep.Statement.{statement}
-use Rattle.extrapolation.proofs.keep.Tie as tie
+use Rattle.history.proofs.keep.Statement.{statement}
+use Rattle.history.proofs.keep.Tie as tie
 
 abbrev Inv-loop : tie.InvT-loop
 Inv-loop ws w base kept₀ i₀ kept i = (i ≤ length ws) × (length kept ≡ length kept₀) × (kept ≡ put kept₀ base (tab (λ k. at w (getD ws k 0)) i))

@@ -1,0 +1,2 @@
+-- Laws on the system.
+pub mod System
