@@ -176,6 +176,20 @@ fn eliminate(mut a: Vec<Vec<f64>>) -> Option<Vec<f64>> {
     (0..k).map(|i| if a[i][i] == 0.0 { None } else { Some(a[i][k] / a[i][i]) }).collect()
 }
 
+/// The extrapolation's system: each step with each other, summed over the places in their order, and a one behind every row. A pair is summed once.
+fn paired_steps(kept: &[Vec<f64>]) -> Vec<Vec<f64>> {
+    let step = |(before, after): (&Vec<f64>, &Vec<f64>)| after.iter().zip(before).map(|(a, b)| a - b).collect();
+    let steps: Vec<Vec<f64>> = kept.iter().zip(&kept[1..]).map(step).collect();
+    let mut system = vec![vec![1.0; steps.len() + 1]; steps.len()];
+    for (a, row) in steps.iter().enumerate() {
+        for (b, other) in steps[..=a].iter().enumerate() {
+            let sum = row.iter().zip(other).fold(0.0, |s, (x, y)| s + x * y);
+            (system[a][b], system[b][a]) = (sum, sum);
+        }
+    }
+    system
+}
+
 /// The constants and X'y, which serve every solve of a design and its targets.
 pub struct Prepared {
     constants: Vec<f64>,
@@ -241,9 +255,7 @@ impl Run<'_> {
 
     fn extrapolate(&mut self, set: &[usize], kept: &[Vec<f64>], columns: &Columns, place: &dyn Fn(usize) -> usize) {
         let k = self.case.settings.depth as usize;
-        let differences: Vec<Vec<f64>> = (0..k).map(|r| (0..k).map(|c| kept[r + 1][c] - kept[r][c]).collect()).collect();
-        let entry = |a: usize, b: usize| (0..k).fold(0.0, |s, r| s + differences[r][a] * differences[r][b]);
-        let system = (0..k).map(|a| (0..k).map(|b| entry(a, b)).chain([1.0]).collect()).collect();
+        let system = paired_steps(kept);
         let Some(z) = eliminate(system) else { return };
         let total = z.iter().fold(0.0, |s, x| s + x);
         let mut w = vec![0.0; self.w.len()];
@@ -274,7 +286,7 @@ impl Run<'_> {
         for epoch in 0..s.epochs as usize {
             self.epochs += 1;
             self.epoch(set, columns, place);
-            if s.extrapolate && set.len() + 1 >= rows {
+            if s.extrapolate {
                 kept[epoch % rows].iter_mut().zip(set).for_each(|(x, &j)| *x = self.w[j]);
                 if epoch % rows == rows - 1 {
                     self.extrapolate(set, &kept, columns, place);

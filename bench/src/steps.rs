@@ -1,12 +1,16 @@
-//! The oracle's Rust: the published text with a stable sort and sums from +0.0, asked for a whole fit, with nothing watched.
+//! The oracle's Rust: the published text with a stable sort, sums from +0.0 and the extrapolation's matrix of document 02, asked for a whole fit, with
+//! nothing watched but that epochs are counted.
 
 use crate::cases::{Case, Penalty};
 use crate::float::Loops as F;
 use ndarray::{Array1, Array2, ArrayView1};
+use sparseglm_loops::estimators::matrix::as_published;
 use sparseglm_loops::datafits::single_task::{Datafit, Quadratic};
 use sparseglm_loops::datasets::{csc_array::CSCArray, DatasetBase, DesignMatrix};
 use sparseglm_loops::penalties::separable::{L1PlusL2, Penalty as Calls, L1, MCP};
 use sparseglm_loops::solvers::anderson_cd::coordinate_descent;
+use std::cell::Cell;
+use std::time::{Duration, Instant};
 
 /// The inputs in the Rust's own types; making them is not timed.
 pub struct Inputs {
@@ -36,7 +40,46 @@ impl Inputs {
     }
 }
 
-fn descend<DM, P>(design: DM, penalty: &P, case: &Case, targets: Array1<F>) -> Vec<f64>
+/// The Rust's datafit. The Rust gives no report, but it asks for the step sizes once in each epoch, at its beginning.
+struct Counted {
+    datafit: Quadratic<F>,
+    epochs: Cell<u64>,
+}
+
+impl<DM> Datafit<F, DM, Array1<F>> for Counted
+where
+    DM: DesignMatrix<Elem = F>,
+    Quadratic<F>: Datafit<F, DM, Array1<F>>,
+{
+    fn initialize(&mut self, dataset: &DatasetBase<DM, Array1<F>>) {
+        self.datafit.initialize(dataset);
+    }
+
+    fn value(&self, dataset: &DatasetBase<DM, Array1<F>>, fit: ArrayView1<F>) -> F {
+        self.datafit.value(dataset, fit)
+    }
+
+    fn gradient_j(&self, dataset: &DatasetBase<DM, Array1<F>>, fit: ArrayView1<F>, j: usize) -> F {
+        self.datafit.gradient_j(dataset, fit, j)
+    }
+
+    fn full_grad(&self, dataset: &DatasetBase<DM, Array1<F>>, fit: ArrayView1<F>) -> Array1<F> {
+        self.datafit.full_grad(dataset, fit)
+    }
+
+    fn step_size(&self) -> ArrayView1<'_, F> {
+        self.epochs.set(self.epochs.get() + 1);
+        self.datafit.step_size()
+    }
+}
+
+/// What the Rust gives back, and how many epochs it took.
+pub struct Found {
+    pub weights: Vec<f64>,
+    pub epochs: u64,
+}
+
+fn descend<DM, P>(design: DM, penalty: &P, case: &Case, targets: Array1<F>) -> Found
 where
     DM: DesignMatrix<Elem = F>,
     P: Calls<F>,
@@ -44,9 +87,10 @@ where
 {
     let s = &case.settings;
     let dataset = DatasetBase::new(design, targets);
+    let mut counted = Counted { datafit: Quadratic::new(), epochs: Cell::new(0) };
     let weights = coordinate_descent(
         &dataset,
-        &mut Quadratic::new(),
+        &mut counted,
         penalty,
         s.start as usize,
         // The last check is the first step of one iteration more.
@@ -57,10 +101,10 @@ where
         s.extrapolate,
         false,
     );
-    weights.iter().map(|&w| w.into()).collect()
+    Found { weights: weights.iter().map(|&w| w.into()).collect(), epochs: counted.epochs.get() }
 }
 
-fn by_penalty<DM>(design: DM, case: &Case, targets: Array1<F>) -> Vec<f64>
+fn by_penalty<DM>(design: DM, case: &Case, targets: Array1<F>) -> Found
 where
     DM: DesignMatrix<Elem = F>,
     Quadratic<F>: Datafit<F, DM, Array1<F>>,
@@ -73,17 +117,17 @@ where
     }
 }
 
-/// The weights. The targets are copied, since the Rust takes them.
-pub fn fit(case: &Case, inputs: &mut Inputs) -> (Vec<f64>, std::time::Duration) {
+/// The targets are copied, since the Rust takes them.
+pub fn fit(case: &Case, inputs: &mut Inputs) -> (Found, Duration) {
     let targets = inputs.targets.clone();
     match inputs.dense.take() {
         Some(design) => {
             // It is taken too, and made anew afterwards.
-            let start = std::time::Instant::now();
-            let weights = by_penalty(design, case, targets);
+            let start = Instant::now();
+            let found = by_penalty(design, case, targets);
             let took = start.elapsed();
             *inputs = Inputs::of(case);
-            (weights, took)
+            (found, took)
         }
         None => {
             let view = CSCArray::new(
@@ -91,9 +135,17 @@ pub fn fit(case: &Case, inputs: &mut Inputs) -> (Vec<f64>, std::time::Duration) 
                 ArrayView1::from(&inputs.rows[..]),
                 ArrayView1::from(&inputs.starts[..]),
             );
-            let start = std::time::Instant::now();
-            let weights = by_penalty(view, case, targets);
-            (weights, start.elapsed())
+            let start = Instant::now();
+            let found = by_penalty(view, case, targets);
+            (found, start.elapsed())
         }
     }
+}
+
+/// The same with the extrapolation's matrix as published, which needs working sets of K places at least.
+pub fn fit_as_published(case: &Case, inputs: &mut Inputs) -> Found {
+    as_published(true);
+    let (found, _) = fit(case, inputs);
+    as_published(false);
+    found
 }
