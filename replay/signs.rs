@@ -8,16 +8,15 @@ use crate::problems::pair;
 type Set = u64;
 const ALL: Set = 0xffff_ffff;
 
-/// With extrapolation off and then on: targets, columns and both turned. With it on, the law speaks of the targets alone.
+/// With extrapolation off and then on: targets, columns and both turned.
 const KINDS: [&str; 6] = [
     "off, targets turned",
     "off, columns turned",
     "off, both turned",
     "on, targets turned",
-    "on, columns turned (not promised)",
-    "on, both turned (not promised)",
+    "on, columns turned",
+    "on, both turned",
 ];
-const PROMISED: usize = 4;
 
 /// Fits that turned as they must, refusals that stayed, and answers that differ, for each kind.
 #[derive(Default)]
@@ -87,19 +86,22 @@ impl Tallies {
         }
     }
 
-    /// A problem is turned with extrapolation switched off, and one that has it on also as it is.
+    /// A problem is turned with extrapolation off and with it on. One that has it off has its own depth, or where that would be refused one from its
+    /// number; one that has it on keeps its depth, and with it a refusal.
     pub fn turn(&mut self, mut case: Case, number: u64) {
-        let set = chosen(number, case.p);
-        if case.settings.extrapolate {
-            self.turn_as_it_is(&case, set, 3);
+        let (set, s) = (chosen(number, case.p), &mut case.settings);
+        if !s.extrapolate && !(1..=10).contains(&s.depth) {
+            s.depth = 1 + (number % 10) as u32;
         }
-        case.settings.extrapolate = false;
-        case.lent = case.room();
-        self.turn_as_it_is(&case, set, 0);
+        for (first_kind, extrapolate) in [(0, false), (3, true)] {
+            case.settings.extrapolate = extrapolate;
+            case.lent = case.room();
+            self.turn_as_it_is(&case, set, first_kind);
+        }
     }
 
     pub fn hold(&self) -> bool {
-        self.0[..PROMISED].iter().all(|[_, _, differ]| *differ == 0)
+        self.0.iter().all(|[_, _, differ]| *differ == 0)
     }
 
     pub fn print(&self) {

@@ -93,7 +93,7 @@ fn named(tiles: &[Tile], wrong: impl Fn(usize) -> bool, what: &str) -> usize {
     wrong.len()
 }
 
-/// Whether there is a tile, each is printed as its text says, each problem is answered so by the exports, and the sign law holds where it is promised.
+/// Whether there is a tile, each is printed as its text says, each problem is answered so by the exports, and the sign law holds.
 pub fn replay(list: &[u8], command: &[&str]) -> bool {
     let tiles = tiles_of(list).unwrap_or_else(|| fail("the list is broken off, or is none"));
     let same = printed(&tiles, command);
