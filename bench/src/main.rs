@@ -7,6 +7,7 @@ mod calls;
 #[allow(dead_code)] // What the test program asks besides.
 #[path = "../../large/cases.rs"]
 mod cases;
+mod extrapolation;
 mod fast;
 #[path = "../../oracle/src/float.rs"]
 mod float;
@@ -68,6 +69,14 @@ fn as_csc(case: &Case) -> Case {
     Case { csc: true, starts, rows, values, ..case.clone() }
 }
 
+/// That the fast Rust and the oracle's Rust end as ours does, after as many epochs.
+pub fn assert_same(name: &str, ours: &Ending, quick: &Ending, stepped: &steps::Found) {
+    assert_eq!(line(name, ours), line(name, quick), "the fast Rust differs");
+    let Ending::Fitted { weights, counts: [_, epochs, _], .. } = ours else { panic!("{name} is refused") };
+    assert!(weights.iter().zip(&stepped.weights).all(|(a, b)| a.to_bits() == b.to_bits()), "{name}: the oracle's Rust differs");
+    assert_eq!(*epochs, stepped.epochs, "{name}: the oracle's Rust takes other epochs");
+}
+
 /// Ours, the oracle's Rust, the fast one: the best of three, in turn.
 fn fits(name: &str, case: &Case, turns: usize, with_others: bool) {
     let (mut ours, mut stepwise, mut quick) = (f64::INFINITY, f64::INFINITY, f64::INFINITY);
@@ -77,14 +86,12 @@ fn fits(name: &str, case: &Case, turns: usize, with_others: bool) {
         let mut zeros = Zeros::of(case);
         let mut ending = None;
         ours = ours.min(time(|| ending = Some(zeros.pair(case))));
-        let (weights, took) = steps::fit(case, &mut inputs);
+        let (stepped, took) = steps::fit(case, &mut inputs);
         stepwise = stepwise.min(took.as_secs_f64());
         let mut other = None;
         quick = quick.min(time(|| other = Some(fast::fit(case))));
         let (ending, other) = (ending.expect("an ending"), other.expect("an ending"));
-        assert_eq!(line(name, &ending), line(name, &other), "the fast Rust differs");
-        let Ending::Fitted { weights: w, .. } = &ending else { panic!("{name} is refused") };
-        assert!(w.iter().zip(&weights).all(|(a, b)| a.to_bits() == b.to_bits()), "the oracle's Rust differs");
+        assert_same(name, &ending, &other, &stepped);
         found = Some(ending);
     }
     eprintln!("{}", line(name, &found.expect("one turn at least")));
@@ -92,8 +99,8 @@ fn fits(name: &str, case: &Case, turns: usize, with_others: bool) {
     MILLISECONDS.print_row(&Row { name: name.into(), ours, others: vec![Some(stepwise), Some(quick), sklearn, glmnet] });
 }
 
-fn extrapolated(case: &Case) -> Case {
-    case.clone().with(|s| (s.extrapolate, s.depth) = (true, 5))
+pub fn extrapolated(case: &Case, depth: u32) -> Case {
+    case.clone().with(|s| (s.extrapolate, s.depth) = (true, depth))
 }
 
 /// L1 at two alphas, with extrapolation off and on.
@@ -101,7 +108,7 @@ fn family(name: &str, make: impl Fn(f64) -> Case, turns: usize) {
     for share in [0.1, 0.01] {
         let case = longer(make(share));
         fits(&format!("{name}, alpha {share}"), &case, turns, true);
-        fits(&format!("{name}, alpha {share}, extrapolated"), &extrapolated(&case), turns, false);
+        fits(&format!("{name}, alpha {share}, extrapolated"), &extrapolated(&case, 5), turns, false);
     }
 }
 
@@ -123,6 +130,8 @@ fn main() {
     family("tall 65,536 x 256", |share| dense(65_536, 256, 0.0, share), 3);
     fits("tall 65,536 x 256 as CSC, alpha 0.1", &as_csc(&longer(tall)), 3, false);
     family("CSC 20,000 x 5,000, 1 %", |share| csc(20_000, 5_000, 200, 0.5, share), 3);
+
+    extrapolation::print();
 
     MILLISECONDS.print_head("ten alphas, prepared once", &["ten fits of fast Rust", "fast Rust prepared once", "ten pairs of ours"]);
     alphas::rows().for_each(|row| MILLISECONDS.print_row(&row));
