@@ -44,8 +44,8 @@ impl Run {
 /// The epochs with extrapolation off, then for each depth the four numbers with it on.
 fn row(name: &str, off: Case) {
     let mut inputs = steps::Inputs::of(&off);
-    let [five, ten] = DEPTHS.map(|depth| extrapolated(&off, depth));
-    let mut runs = [off, five, ten].map(Run::of);
+    let [shallow, deep] = DEPTHS.map(|depth| extrapolated(&off, depth));
+    let mut runs = [off, shallow, deep].map(Run::of);
     let mut calls = runs.each_mut().map(|run| move || run.ending = Some(run.zeros.pair(&run.case)));
     let times = best_of(TURNS, calls.each_mut().map(|call| call as &mut dyn FnMut()));
     let (epochs, _) = runs[0].counts(name, &mut inputs);

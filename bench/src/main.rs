@@ -1,5 +1,6 @@
-//! Times the library's exports against other programs on the same inputs, in one run, and prints tables of ratios: our time over theirs. That all
-//! give the same bits is asserted, but for sklearn and glmnet (others.rs), of which the same tolerance is asked.
+//! Times the library's exports against other programs on the same inputs, in one run, and prints tables of ratios: our time over theirs. One table has
+//! epochs, and our time with extrapolation over that without. That all give the same bits is asserted, but for sklearn and glmnet (others.rs), of which
+//! the same tolerance is asked, and for the matrix as published.
 
 mod alphas;
 #[path = "../../large/calls.rs"]
