@@ -1,6 +1,7 @@
 //! The self check: values that document 01 names, asked of both variants.
 
 use crate::calls::{Designs, Leaves, Runs};
+use crate::departures::{self, STEPS_PAIRED};
 use crate::designs::Design;
 use crate::files::{bytes, fields, printed};
 use crate::leaves::{Kind, Penalty};
@@ -126,10 +127,14 @@ fn same_end(one: &Outcome, other: &Outcome, whose: &str) -> Result<(), String> {
 }
 
 /// To a run which the Rust has an answer to, our loops around its parts have the
-/// same.
+/// same. They skip where a working set has fewer than K places: without request 3
+/// the Rust panics there, and has no answer.
 fn check_loops<V: Runs>(case: &FitCase, numbers: Numbers) -> Result<(), String> {
+    if departures::holds(STEPS_PAIRED) && case.may_be_short() {
+        return Ok(());
+    }
     match V::run(case, numbers) {
-        Outcome::ShortSet => Ok(()),
+        Outcome::Panicked => Ok(()),
         rust => same_end(&rust, &V::run_in_our_loops(case, numbers), "in our loops"),
     }
 }

@@ -3,13 +3,20 @@
 //! has none of them, so that each departure shows as a difference. A request is
 //! turned off by `--without`: then loops has the Rust's answer too.
 
+use sparseglm_loops::estimators::matrix;
 use std::sync::OnceLock;
+
+/// "The matrix should pair the K steps with each other .. The skip for fewer than K
+/// places goes away." Published, whose matrix pairs the first K features, panics
+/// there. Without this request loops has that matrix too, and where it has fewer
+/// than K places document 01's rule is back: the step is skipped.
+pub const STEPS_PAIRED: u32 = 3;
 
 /// "Soft threshold should not swallow NaN": a NaN argument or threshold answers
 /// NaN, and the L1 and L1PlusL2 prox calls follow.
 pub const NAN_STAYS: u32 = 8;
 
-const ALL: [u32; 1] = [NAN_STAYS];
+const ALL: [u32; 2] = [STEPS_PAIRED, NAN_STAYS];
 
 static OFF: OnceLock<Vec<u32>> = OnceLock::new();
 
@@ -19,7 +26,9 @@ pub fn turn_off(requests: Vec<u32>) -> Result<(), String> {
         return Err(format!("request {other} departs from nothing here"));
     }
     OFF.set(requests)
-        .map_err(|_| "requests are turned off once".into())
+        .map_err(|_| "requests are turned off once")?;
+    matrix::as_published(!holds(STEPS_PAIRED));
+    Ok(())
 }
 
 fn off() -> &'static [u32] {

@@ -95,7 +95,8 @@ fn solved(case: &SolveCase) -> Ending {
             fit: report.fit,
         },
         Outcome::NotFinite(_) => Ending::Refused { number: 7, place: 0 },
-        Outcome::ShortSet | Outcome::TooLong => unreachable!("the cases have sets of K places at least"),
+        Outcome::Panicked => unreachable!("without request 3: the cases have sets of K places at least"),
+        Outcome::TooLong => unreachable!("the work is not limited"),
     }
 }
 

@@ -3,7 +3,7 @@
 
 use crate::departures;
 use crate::random::Random;
-use crate::record::{unwritable, Differences, Record};
+use crate::record::{panics_told, unwritable, Differences, Record};
 use crate::words::Word;
 use std::io::{self, Write};
 
@@ -14,8 +14,8 @@ pub struct Recipe {
     pub shares: &'static [(u32, u64)],
     /// The code that takes what is left.
     pub last: u32,
-    /// How the cases are chosen, in lines that may come from several places.
-    pub how: &'static [&'static [&'static str]],
+    /// How the cases are chosen, in lines.
+    pub how: fn() -> Vec<&'static str>,
     /// Makes so many cases of one code.
     pub part: fn(u32, usize, &mut Random) -> Part,
     /// What the header says at its end.
@@ -38,11 +38,15 @@ impl Part {
         differing.count()
     }
 
+    fn panicking(&self) -> usize {
+        self.records.iter().filter(|record| record.panics()).count()
+    }
+
     fn told(&self) -> Vec<String> {
         let (code, cases, remark) = (self.code, self.records.len(), &self.remark);
-        let differing = self.differing();
+        let (differing, panics) = (self.differing(), panics_told(self.panicking()));
         let line = format!(
-            "code {code:x}: {cases} cases, {remark}, published answers otherwise in {differing}"
+            "code {code:x}: {cases} cases, {remark}, published answers otherwise in {differing}{panics}"
         );
         let details = self.details.iter().map(|detail| format!("  {detail}"));
         [line].into_iter().chain(details).collect()
@@ -88,12 +92,12 @@ impl Recipe {
             ),
             format!("seed {seed}, count {count}"),
         ];
-        let how = self.how.iter().copied().flatten();
-        lines.extend(how.map(|line| line.to_string()));
+        lines.extend((self.how)().into_iter().map(String::from));
         lines.extend(parts.iter().flat_map(Part::told));
         let differing: usize = parts.iter().map(Part::differing).sum();
+        let panics = panics_told(parts.iter().map(Part::panicking).sum());
         lines.push(format!(
-            "published answers otherwise in {differing} cases in all"
+            "published answers otherwise in {differing} cases in all{panics}"
         ));
         lines.extend((self.notes)(parts));
         lines

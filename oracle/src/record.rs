@@ -64,8 +64,14 @@ impl Record {
         }
     }
 
+    /// Whether published has another answer. A panic is none: see below.
     pub fn differs(&self) -> bool {
-        self.loops != self.published
+        self.loops != self.published && !self.panics()
+    }
+
+    /// Whether the published text panics.
+    pub fn panics(&self) -> bool {
+        self.published.contains(&Word::Panicked)
     }
 
     /// The words of the answers.
@@ -87,16 +93,28 @@ impl Record {
 /// Differences that are told in full; the rest are only counted.
 const TOLD: usize = 20;
 
-/// Tells on standard error where the two variants answer differently.
+/// What is said behind the count of the cases that published answers otherwise; nothing
+/// where it always answers.
+pub fn panics_told(panicking: usize) -> String {
+    match panicking {
+        0 => String::new(),
+        count => format!(", the published text panics in {count}"),
+    }
+}
+
+/// Tells on standard error where the two variants answer differently. Where the
+/// published text panics is only counted.
 #[derive(Default)]
 pub struct Differences {
     cases: usize,
     differing: usize,
+    panicking: usize,
 }
 
 impl Differences {
     pub fn note(&mut self, record: &Record) {
         self.cases += 1;
+        self.panicking += usize::from(record.panics());
         if !record.differs() {
             return;
         }
@@ -108,8 +126,13 @@ impl Differences {
     }
 
     pub fn tell_count(&self) {
-        let Differences { cases, differing } = self;
-        eprintln!("published answers otherwise in {differing} of {cases} cases");
+        let Differences {
+            cases,
+            differing,
+            panicking,
+        } = self;
+        let panics = panics_told(*panicking);
+        eprintln!("published answers otherwise in {differing} of {cases} cases{panics}");
     }
 }
 

@@ -10,14 +10,18 @@ const NAN_BITS: u64 = 0x7ff8_0000_0000_0000;
 pub enum Word {
     Count(u32),
     Double(f64),
+    /// In the place of an answer: the published text panics.
+    Panicked,
 }
 
 impl Word {
-    fn bits(&self) -> u64 {
+    /// None where the word is no number.
+    fn bits(&self) -> Option<u64> {
         match *self {
-            Word::Count(count) => count.into(),
-            Word::Double(x) if x.is_nan() => NAN_BITS,
-            Word::Double(x) => x.to_bits(),
+            Word::Count(count) => Some(count.into()),
+            Word::Double(x) if x.is_nan() => Some(NAN_BITS),
+            Word::Double(x) => Some(x.to_bits()),
+            Word::Panicked => None,
         }
     }
 
@@ -26,15 +30,17 @@ impl Word {
         match self {
             Word::Count(count) => count.to_string(),
             Word::Double(x) => format!("{x:?}"),
+            Word::Panicked => self.to_string(),
         }
     }
 }
 
 impl fmt::Display for Word {
     fn fmt(&self, out: &mut fmt::Formatter<'_>) -> fmt::Result {
-        match self {
-            Word::Count(_) => write!(out, "{:x}", self.bits()),
-            Word::Double(_) => write!(out, "{:016x}", self.bits()),
+        match (self, self.bits()) {
+            (Word::Double(_), Some(bits)) => write!(out, "{bits:016x}"),
+            (_, Some(bits)) => write!(out, "{bits:x}"),
+            (_, None) => write!(out, "panicked"),
         }
     }
 }

@@ -39,12 +39,11 @@ pub trait Designs {
 pub trait Runs {
     fn run(case: &FitCase, numbers: Numbers) -> Outcome;
 
-    /// As `run` with the datafit's own numbers, but the step is skipped where the
-    /// Rust stops at a working set that is too small for it, and a run of more
-    /// than so much work is given up.
-    fn run_skipping(case: &FitCase, work: u64) -> Outcome;
+    /// As `run` with the datafit's own numbers, but a run of more than so much work
+    /// is given up. Without request 3 the step is skipped where the Rust panics.
+    fn run_within(case: &FitCase, work: u64) -> Outcome;
 
-    /// In the loops that skip, whether the Rust would stop or not.
+    /// In the loops that skip, whether the Rust would panic or not.
     fn run_in_our_loops(case: &FitCase, numbers: Numbers) -> Outcome;
 
     /// The features in the set, in its order.

@@ -10,8 +10,9 @@ use super::glm::solvers::anderson_cd::{construct_ws_from_kkt, coordinate_descent
 use super::leaves::build;
 use super::numbers::{array, doubles};
 use super::skipping::descend;
-use super::{Rust, F};
+use super::{wants_places, Rust, F};
 use crate::calls::Runs;
+use crate::departures::{self, STEPS_PAIRED};
 use crate::runs::{outcome, FitCase, Numbers, Outcome, Settings, Watch};
 use ndarray::{Array1, Array2, ArrayView1};
 
@@ -260,6 +261,7 @@ fn watched_outcome(case: &FitCase, numbers: Numbers, work: u64, loops: Loops) ->
     outcome(
         case,
         work,
+        wants_places(),
         |watch| by_layout!(&case.design, x => watched_run(x, case, numbers, watch, loops)),
     )
 }
@@ -269,9 +271,10 @@ impl Runs for Rust {
         watched_outcome(case, numbers, u64::MAX, Loops::TheRusts)
     }
 
-    fn run_skipping(case: &FitCase, work: u64) -> Outcome {
-        match watched_outcome(case, Numbers::Own, work, Loops::TheRusts) {
-            Outcome::ShortSet => watched_outcome(case, Numbers::Own, work, Loops::Ours),
+    fn run_within(case: &FitCase, work: u64) -> Outcome {
+        let run = |loops| watched_outcome(case, Numbers::Own, work, loops);
+        match run(Loops::TheRusts) {
+            Outcome::Panicked if !departures::holds(STEPS_PAIRED) => run(Loops::Ours),
             other => other,
         }
     }

@@ -1,7 +1,8 @@
 //! The loops of the Rust's `coordinate_descent` once more, around its own parts;
-//! compiled once in each variant. They are for the runs in which it panics:
-//! document 01 skips the extrapolation from a working set of fewer than K places.
-//! On all other runs they do the same, which `oracle check` looks at.
+//! compiled once in each variant. They are wanted without request 3 only, for the
+//! runs in which the Rust panics: document 01 skips the extrapolation from a
+//! working set of fewer than K places. On all other runs they do the same, which
+//! `oracle check` looks at.
 
 use super::glm::datafits::single_task::Datafit;
 use super::glm::datasets::{DatasetBase, DesignMatrix};

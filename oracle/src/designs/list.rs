@@ -40,7 +40,7 @@ pub const LIST: Recipe = Recipe {
         (Call::AlphaMax as u32, 140),
     ],
     last: Call::Check as u32,
-    how: &[&HOW],
+    how: || HOW.to_vec(),
     part,
     notes,
 };

@@ -1,6 +1,7 @@
 //! Writes a list of made files with what the program must print for each.
 
-use super::listing::{kind, printed};
+use super::listing::{kind, printed, PANICKED};
+use crate::departures;
 use crate::random::Random;
 use crate::record::{unwritable, Variant};
 use std::collections::BTreeMap;
@@ -100,14 +101,19 @@ fn outcomes(made: &[Made]) -> String {
 
 /// What a list says of itself: how it was made, and how often each outcome comes.
 pub fn comments(command: &str, how: &[&str], made: &[Made], given_up: usize) -> Vec<String> {
-    let otherwise = made.iter().filter(|made| made.published.is_some()).count();
-    let mut lines = vec![format!("made by: oracle {command}")];
+    let published = || made.iter().filter_map(|made| made.published.as_deref());
+    let panics = published().filter(|text| *text == PANICKED).count();
+    let otherwise = published().count() - panics;
+    let mut lines = vec![format!("made by: oracle {}{command}", departures::words())];
     lines.extend(how.iter().map(|line| line.to_string()));
     lines.extend([
         outcomes(made),
         format!("redrawn because the run was too long: {given_up}"),
         format!("published prints otherwise for {otherwise} files"),
     ]);
+    if panics > 0 {
+        lines.push(format!("the published text panics for {panics} files"));
+    }
     lines
 }
 

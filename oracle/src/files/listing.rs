@@ -7,6 +7,9 @@ use crate::runs::{FitCase, Outcome, Report};
 use crate::words::Word;
 use crate::{loops, published};
 
+/// In the place of a listing, where the published text panics.
+pub const PANICKED: &str = "panicked\n";
+
 fn refused(number: u32, place: usize) -> String {
     format!("refused {number} at {place}\n")
 }
@@ -37,18 +40,18 @@ pub fn printed(file: &[u8], variant: Variant, work: u64) -> Option<String> {
         return Some(refused(number, place as usize));
     }
     let outcome = match variant {
-        Variant::Loops => loops::Rust::run_skipping(&case, work),
-        Variant::Published => published::Rust::run_skipping(&case, work),
+        Variant::Loops => loops::Rust::run_within(&case, work),
+        Variant::Published => published::Rust::run_within(&case, work),
     };
     match outcome {
         Outcome::Finished(report) => Some(listed(&case, report)),
         Outcome::NotFinite(_) => Some(refused(7, 0)),
         Outcome::TooLong => None,
-        Outcome::ShortSet => unreachable!("the step is skipped"),
+        Outcome::Panicked => Some(PANICKED.into()),
     }
 }
 
-/// The kind of what is printed: `status 1`, `status 2` or `refused N`.
+/// The kind of what is printed by loops: `status 1`, `status 2` or `refused N`.
 pub fn kind(printed: &str) -> &str {
     let line = printed.lines().next().unwrap_or("");
     line.split(" at ").next().unwrap_or(line)

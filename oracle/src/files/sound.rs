@@ -55,7 +55,8 @@ pub fn accepting<const K: usize>(random: &mut Random) -> File {
     file(&runs::extrapolated_from(K, random))
 }
 
-/// The step is skipped in some working set, since it has fewer than K places.
+/// A step comes to a working set of fewer than K places: the published text panics
+/// there, and without request 3 the step is skipped.
 pub fn short_set(random: &mut Random) -> File {
     loop {
         let mut case = any(random);
@@ -71,7 +72,7 @@ pub fn short_set(random: &mut Random) -> File {
         settings.epochs = settings.depth + 1 + random.below(20) as u32;
         // The lent buffers were made for other settings.
         case.lent = case.room();
-        if !case.comparable() {
+        if case.panics() {
             return file(&case);
         }
     }

@@ -34,7 +34,7 @@ pub const LIST: Recipe = Recipe {
     layer: "leaves",
     shares: &[(1, 160), (2, 235), (3, 140), (4, 115), (5, 134), (6, 120)],
     last: 7,
-    how: &[&HOW],
+    how: || HOW.to_vec(),
     part,
     notes: |_| departed(),
 };

@@ -9,6 +9,11 @@ use std::primitive::f64 as F;
 /// Stands for this variant where a call is generic over the two.
 pub struct Rust;
 
+/// Whether the extrapolation panics where a working set has fewer than K places.
+fn wants_places() -> bool {
+    true
+}
+
 #[path = "../calls/designs.rs"]
 mod designs;
 #[path = "../calls/leaves.rs"]

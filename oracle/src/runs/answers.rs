@@ -83,7 +83,7 @@ impl SolveCase {
         match V::run(fit, Numbers::Handed(&self.handed())) {
             Outcome::Finished(report) => fit.reported(report),
             Outcome::NotFinite(_) => refused((7, 0), Left::zero(fit)),
-            Outcome::ShortSet => unreachable!("only comparable cases are read and made"),
+            Outcome::Panicked => vec![("published", Word::Panicked)],
             Outcome::TooLong => unreachable!("the work is not limited"),
         }
     }

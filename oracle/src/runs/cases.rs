@@ -226,7 +226,7 @@ pub fn lent(room: Lent, random: &mut Random) -> Lent {
     }
 }
 
-/// A run that the Rust may have no answer to.
+/// A run to which, without request 3, the Rust may have no answer.
 pub fn any(theme: Theme, layout: Layout, random: &mut Random) -> FitCase {
     let (design, targets) = problem(theme, layout, random);
     with_settings(theme, design, targets, random)
@@ -287,7 +287,8 @@ pub fn to_be_spoiled(layout: Layout, random: &mut Random) -> FitCase {
     any(theme, layout, random)
 }
 
-/// A pair that the Rust has an answer to; `redrawn` counts those that it hasn't.
+/// A pair that has an answer; `redrawn` counts those that, without request 3, have
+/// none.
 pub fn sound(redrawn: &mut usize, random: &mut Random) -> PairCase {
     loop {
         let (theme, layout) = (Theme::drawn(random), random.pick(&LAYOUTS));
@@ -304,8 +305,8 @@ pub fn any_depth(random: &mut Random) -> usize {
     1 + random.below(*DEPTHS.end() as usize)
 }
 
-/// A run that accepts an extrapolation. Few runs do, since the Rust takes its system
-/// from the wrong side, which document 01 keeps.
+/// A run that accepts an extrapolation. Without request 3 few runs do, since the
+/// Rust takes its system from the wrong side.
 pub fn extrapolated_from(wanted: usize, random: &mut Random) -> FitCase {
     loop {
         let (theme, layout) = (Theme::drawn(random), random.pick(&LAYOUTS));

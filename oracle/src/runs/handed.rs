@@ -255,7 +255,7 @@ fn with(make: Make, layout: Layout, random: &mut Random) -> SolveCase {
     case
 }
 
-/// A solve that the Rust may have no answer to.
+/// A solve to which, without request 3, the Rust may have no answer.
 pub fn any(layout: Layout, random: &mut Random) -> SolveCase {
     let make = match MAKES.get(random.below(ALL_MAKES)) {
         Some(&make) => make,
@@ -268,7 +268,8 @@ fn run(case: &SolveCase) -> Outcome {
     loops::Rust::run(&case.0.fit, Numbers::Handed(&case.handed()))
 }
 
-/// A solve that the Rust has an answer to; `redrawn` counts those that it hasn't.
+/// A solve that has an answer; `redrawn` counts those that, without request 3, have
+/// none.
 pub fn sound(redrawn: &mut usize, random: &mut Random) -> SolveCase {
     loop {
         let case = any(random.pick(&LAYOUTS), random);

@@ -25,7 +25,7 @@ pub const LIST: Recipe = Recipe {
     layer: "runs",
     shares: &[(PairCase::CODE, 500), (SolveCase::CODE, 300)],
     last: SetCase::CODE,
-    how: &[&NUMBERS, &pairs::HOW, &solves::HOW, &SETS],
+    how: || [NUMBERS.to_vec(), pairs::how(), solves::how(), SETS.to_vec()].concat(),
     part,
     notes,
 };
@@ -34,7 +34,7 @@ pub const PAIRS: Recipe = Recipe {
     layer: "pairs",
     shares: &[],
     last: PairCase::CODE,
-    how: &[&NUMBERS, &pairs::HOW],
+    how: || [NUMBERS.to_vec(), pairs::how()].concat(),
     part,
     notes,
 };
@@ -43,7 +43,7 @@ pub const HANDED: Recipe = Recipe {
     layer: "handed",
     shares: &[],
     last: SolveCase::CODE,
-    how: &[&NUMBERS, &solves::HOW],
+    how: || [NUMBERS.to_vec(), solves::how()].concat(),
     part,
     notes,
 };

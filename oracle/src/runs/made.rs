@@ -6,6 +6,7 @@ use super::outcome::Outcome;
 use super::watch::NotFinite;
 use super::{Given, Numbers, PairCase, SolveCase};
 use crate::calls::Runs;
+use crate::departures::{self, STEPS_PAIRED};
 use crate::leaves::Kind;
 use crate::list::Part;
 use crate::loops;
@@ -120,12 +121,12 @@ fn statuses_and_penalties(made: &[Made]) -> String {
 
 fn depths(made: &[Made]) -> String {
     let on = |made: &Made| made.finished() && made.given.fit.settings.extrapolate;
-    let used = |made: &Made| made.finished() && made.given.fit.depth_in_use().is_some();
+    let below = |made: &Made| on(made) && !made.given.fit.has_places();
     format!(
         "extrapolation is off in {} of those answered, on in {}, on with p below K in {}",
         count(made, |made| made.finished() && !on(made)),
-        count(made, used),
-        count(made, |made| on(made) && !used(made)),
+        count(made, |made| on(made) && !below(made)),
+        count(made, below),
     )
 }
 
@@ -147,18 +148,21 @@ fn not_finite(made: &[Made]) -> String {
     format!("not finite in the run or before it: {}", numbers.join(", "))
 }
 
-/// The part of a list.
+/// The part of a list. Nothing is redrawn but without request 3.
 pub fn part(code: u32, made: Vec<Made>, redrawn: usize) -> Part {
+    let mut details = vec![
+        statuses_and_penalties(&made),
+        depths(&made),
+        extrapolations(&made),
+        not_finite(&made),
+    ];
+    if !departures::holds(STEPS_PAIRED) {
+        details.push(format!("redrawn because the Rust panicked: {redrawn}"));
+    }
     Part {
         code,
         remark: remark(&made),
-        details: vec![
-            statuses_and_penalties(&made),
-            depths(&made),
-            extrapolations(&made),
-            not_finite(&made),
-            format!("redrawn because the Rust panicked: {redrawn}"),
-        ],
+        details,
         records: made.into_iter().map(|made| made.record).collect(),
     }
 }

@@ -169,7 +169,8 @@ impl Given {
     }
 }
 
-/// What is said of a case that the Rust has no answer to; it is not read.
+/// What is said without request 3 of a case that the Rust has no answer to; it is
+/// not read.
 const NO_ANSWER: &str = "the Rust stops where a working set has fewer than K places";
 
 impl PairCase {

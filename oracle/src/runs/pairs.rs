@@ -3,10 +3,11 @@
 use super::faults::{Asked, Fault, Wanted};
 use super::made::{self, Made, NUMBERS};
 use super::{cases, corners, faults, FitCase, PairCase};
+use crate::departures::{self, STEPS_PAIRED};
 use crate::list::Part;
 use crate::random::Random;
 
-pub const HOW: [&str; 38] = [
+const PROBLEMS: [&str; 14] = [
     "Code 20, a preparation and then a solve with the numbers that it left: n and p",
     "are 1 to 8, now and then up to 20, and in one of a hundred cases p is 21 to 30",
     "with many equal columns; every second design is CSC. Numbers are moderate",
@@ -21,9 +22,20 @@ pub const HOW: [&str; 38] = [
     "huge; tolerances are mostly +0.0 or a small part of alpha_max. In 3 of 100",
     "runs the settings are at the ends of their ranges and the run ends at once; in",
     "1 of 100 there are 1,000 iterations. Extrapolation is on in 60 of 100; there",
+];
+
+const STEPS: [&str; 2] = [
+    "the start size is mostly at least K, in one of ten any; the step is made from",
+    "fewer than K places too, p below K among them. Lent buffers are as long as",
+];
+
+const STEPS_WITHOUT_3: [&str; 3] = [
     "the start size is mostly at least K, since the Rust panics where it",
     "extrapolates from fewer than K places. With p below K the Rust is run without",
     "extrapolation, which is the same by document 01. Lent buffers are as long as",
+];
+
+const ORDER: [&str; 11] = [
     "their room or up to 3 places longer, and that of the prepared numbers holds",
     "any doubles before. The list begins with runs built by hand (P8, P9, P10 and",
     "corners, in both layouts); then come every fault that either call refuses with",
@@ -35,6 +47,20 @@ pub const HOW: [&str; 38] = [
     "violation: of a design's own numbers no run was found in which it is the first",
     "that isn't finite. Then 72 of 100 cases are drawn so, 12 are drawn until one",
     "accepts an extrapolation (each K as often as the others), 6 have a fault and 10",
+];
+
+const NOTES: [&str; 8] = [
+    "have two. There is no case with arrays of 8,192 or 8,193 entries. A number that",
+    "isn't finite is told apart by the first one, in the order of the Rust's steps,",
+    "in every run that is not refused with 1 to 6 in document 01's order. A candidate",
+    "of a smaller objective whose entries aren't all finite is not accepted, by",
+    "document 01; the Rust would take it. The published text panics where it",
+    "extrapolates from fewer than K places, which is counted by itself. Of each pair",
+    "that is answered, and of each whose run is refused with 7, the Rust's own run,",
+    "which prepares by itself, was seen to end alike, in both variants.",
+];
+
+const NOTES_WITHOUT_3: [&str; 10] = [
     "have two. There is no case with arrays of 8,192 or 8,193 entries, and none of a",
     "working set of fewer than K places where the step would be tried, unless p is",
     "below K. A number that isn't finite is told apart by the first one, in the",
@@ -46,6 +72,16 @@ pub const HOW: [&str; 38] = [
     "refused with 7, the Rust's own run, which prepares by itself, was seen to end",
     "alike, in both variants.",
 ];
+
+/// How the pairs are chosen; without request 3 the step and the notes are others.
+pub fn how() -> Vec<&'static str> {
+    let (steps, notes) = if departures::holds(STEPS_PAIRED) {
+        (&STEPS[..], &NOTES[..])
+    } else {
+        (&STEPS_WITHOUT_3[..], &NOTES_WITHOUT_3[..])
+    };
+    [&PROBLEMS, steps, &ORDER, notes].concat()
+}
 
 const FOR_EACH_NUMBER: usize = 10;
 

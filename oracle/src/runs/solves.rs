@@ -4,10 +4,11 @@ use super::faults::{Asked, Fault, Wanted};
 use super::made::{self, Made};
 use super::watch::NotFinite;
 use super::{corners, faults, handed, SolveCase};
+use crate::departures::{self, STEPS_PAIRED};
 use crate::list::Part;
 use crate::random::Random;
 
-pub const HOW: [&str; 21] = [
+const HOW: [&str; 19] = [
     "Code 22, a solve with handed numbers: problems and settings as in code 20 (a list",
     "of pairs says how), the settings measured by the handed numbers, with 8",
     "iterations and 40 epochs at most, unless the run ends at once; in a fifth of the",
@@ -27,9 +28,26 @@ pub const HOW: [&str; 21] = [
     "of a solve is about. Then 72 of 100 cases are drawn so, 12 are drawn until one",
     "accepts an extrapolation (each K as often as the others), 6 have a fault and 10",
     "have two. The Rust computes its constants and X'y itself: here its datafit takes",
+];
+
+const LEFT_OUT: [&str; 2] = [
+    "the handed ones in their place, and all else is its own. What code 20 leaves out",
+    "is left out here too.",
+];
+
+const LEFT_OUT_WITHOUT_3: [&str; 2] = [
     "the handed ones in their place, and all else is its own. What code 20 leaves out",
     "or redraws is left out or redrawn here too.",
 ];
+
+/// How the solves are chosen.
+pub fn how() -> Vec<&'static str> {
+    let left_out = match departures::holds(STEPS_PAIRED) {
+        true => LEFT_OUT,
+        false => LEFT_OUT_WITHOUT_3,
+    };
+    [&HOW[..], &left_out].concat()
+}
 
 /// What refusal 7 of a solve is about: the handed numbers were tested before.
 const NUMBERS: [NotFinite; 4] = [
