@@ -2,12 +2,13 @@
 
 use crate::calls::{Designs, Leaves, Runs};
 use crate::departures::{self, STEPS_PAIRED};
-use crate::designs::Design;
+use crate::designs::{Design, Layout};
 use crate::files::{bytes, fields, printed};
 use crate::leaves::{Kind, Penalty};
 use crate::random::Random;
 use crate::record::Variant;
 use crate::runs::{any, any_handed, by_hand, handed_by_hand, named, FitCase, Numbers, Outcome};
+use crate::runs::{erased_by_steps, one_column, two_columns, Report};
 use crate::runs::{NotFinite, Prepared, SolveCase, Theme, LAYOUTS};
 use crate::{loops, published};
 
@@ -192,6 +193,53 @@ fn check_by_hand<V: Runs>() -> Result<(), String> {
     Ok(())
 }
 
+fn report_of<V: Runs>(case: &FitCase) -> Result<Report, String> {
+    match V::run(case, Numbers::Own) {
+        Outcome::Finished(report) => Ok(report),
+        other => Err(format!("check: {case:?} ends with {other:?}")),
+    }
+}
+
+/// Whether turning the second of two columns turns its weight and changes nothing
+/// else. With a matrix of paired steps it is so.
+fn turns<V: Runs>(layout: Layout) -> Result<bool, String> {
+    let [one, mut other] = [
+        report_of::<V>(&two_columns(false, layout))?,
+        report_of::<V>(&two_columns(true, layout))?,
+    ];
+    other.weights[1] = -other.weights[1];
+    Ok(format!("{one:?}") == format!("{other:?}"))
+}
+
+fn check_that(what: &str, holds: bool) -> Result<(), String> {
+    let problem = || format!("check: not so: {what}");
+    holds.then_some(()).ok_or_else(problem)
+}
+
+/// The matrix of loops is request 3's, and one place is enough for it; without the
+/// request it is the published one, and the step is skipped.
+fn check_matrix() -> Result<(), String> {
+    let amended = departures::holds(STEPS_PAIRED);
+    for layout in LAYOUTS {
+        let loops_turns = turns::<loops::Rust>(layout)?;
+        check_that("loops turns with its column", loops_turns == amended)?;
+        check_that("published does not", !turns::<published::Rust>(layout)?)?;
+
+        let SolveCase(given) = one_column(layout);
+        let handed = one_column(layout).handed();
+        let accepts = loops::Rust::run(&given.fit, Numbers::Handed(&handed)).accepts();
+        check_that("one column extrapolates with K = 2", accepts == amended)?;
+        let published = published::Rust::run(&given.fit, Numbers::Handed(&handed));
+        let panics = matches!(published, Outcome::Panicked);
+        check_that("published panics there", panics == amended)?;
+
+        let report = report_of::<loops::Rust>(&erased_by_steps(layout))?;
+        let erased = report.extrapolations > 0 && report.weights[0].is_sign_positive();
+        check_that("an accepted candidate erases a sign", erased == amended)?;
+    }
+    Ok(())
+}
+
 pub fn check() -> Result<(), String> {
     check_leaves::<loops::Rust>()?;
     check_leaves::<published::Rust>()?;
@@ -203,6 +251,7 @@ pub fn check() -> Result<(), String> {
     check_drawn::<published::Rust>()?;
     check_by_hand::<loops::Rust>()?;
     check_by_hand::<published::Rust>()?;
+    check_matrix()?;
     check_file(Variant::Loops)?;
     check_file(Variant::Published)?;
     println!("ok");

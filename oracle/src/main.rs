@@ -25,7 +25,7 @@ use record::Variant;
 use std::process::ExitCode;
 
 const USAGE: &str = "usage: oracle [--without REQUEST].. COMMAND, where a command is ask WORD.. | answer | \
-    list leaves|designs|runs|pairs|handed|tiles SEED COUNT | tile [published] | old | \
+    list leaves|designs|runs|pairs|handed|extrapolated|tiles SEED COUNT | tile [published] | old | \
     files SEED COUNT [FAMILY..] | damage SEED COUNT [FAMILY..] | large [quick] | check";
 
 fn decimal(word: &str) -> Result<u64, String> {
@@ -40,6 +40,9 @@ fn list(words: &[&str]) -> Result<(), String> {
         ["runs", seed, count] => runs::LIST.write(decimal(seed)?, decimal(count)?),
         ["pairs", seed, count] => runs::PAIRS.write(decimal(seed)?, decimal(count)?),
         ["handed", seed, count] => runs::HANDED.write(decimal(seed)?, decimal(count)?),
+        ["extrapolated", seed, count] => {
+            runs::EXTRAPOLATED.write(decimal(seed)?, decimal(count)?)
+        }
         ["tiles", seed, count] => files::list(decimal(seed)?, decimal(count)?),
         _ => Err(USAGE.into()),
     }

@@ -117,15 +117,16 @@ fn hidden_gradient(kind: Kind) -> Corner {
     }
 }
 
-/// The first column's weight is -0.0 (L1PlusL2 divides by infinity) and leaves
-/// the working set; an accepted candidate then writes +0.0 over it.
+/// A column whose weight L1PlusL2 divides by infinity.
+fn faded() -> Vec<f64> {
+    vec![1.5 * 2f64.powi(-511), 0.0]
+}
+
+/// The first column's weight is -0.0 and leaves the working set; a candidate that
+/// is accepted with the published matrix then writes +0.0 over it.
 fn erased_sign() -> Corner {
     Corner {
-        columns: vec![
-            vec![1.5 * 2f64.powi(-511), 0.0],
-            vec![8.0, 0.0],
-            vec![-24.0, 8.0],
-        ],
+        columns: vec![faded(), vec![8.0, 0.0], vec![-24.0, 8.0]],
         targets: vec![-64.0, -192.0],
         kind: Kind::L1PlusL2,
         alpha: 64.0,
@@ -135,6 +136,17 @@ fn erased_sign() -> Corner {
         epochs: 3,
         depth: 2,
     }
+}
+
+/// The same with a candidate that is accepted with request 3's matrix.
+pub fn erased_by_steps(layout: Layout) -> FitCase {
+    let corner = Corner {
+        columns: vec![faded(), vec![8.0, -16.0], vec![0.0, 8.0]],
+        targets: vec![-64.0, 0.0],
+        alpha: 32.0,
+        ..erased_sign()
+    };
+    corner.case(layout)
 }
 
 /// The candidate's fit is the sum of one -0.0: +0.0 where the sum starts at +0.0.
@@ -186,6 +198,69 @@ pub fn by_hand() -> Vec<FitCase> {
         cases.extend(corners.iter().map(|corner| corner.case(layout)));
     }
     cases
+}
+
+/// Two columns with K = 2: the step ends at the solution, (1.5, -0.5). The published
+/// matrix, which pairs the columns, has a worse point. With the second column turned
+/// the weight turns and all else is the same; by the published matrix it isn't.
+pub fn two_columns(turned: bool, layout: Layout) -> FitCase {
+    let sign = if turned { -1.0 } else { 1.0 };
+    let corner = Corner {
+        columns: vec![vec![1.0, 0.0], vec![sign, 2.0 * sign]],
+        targets: vec![1.0, -1.0],
+        kind: Kind::L1,
+        alpha: 0.0,
+        second: 0.0,
+        start: 2,
+        iterations: 1,
+        epochs: 3,
+        depth: 2,
+    };
+    corner.case(layout)
+}
+
+/// Equal columns of one sample, as many as there are places.
+fn equal_columns(places: usize, depth: u32) -> Corner {
+    Corner {
+        columns: vec![vec![1.0]; places],
+        targets: vec![1.0],
+        kind: Kind::L1PlusL2,
+        alpha: 1.0,
+        second: 0.5,
+        start: places as u32,
+        iterations: 1,
+        epochs: depth + 1,
+        depth,
+    }
+}
+
+/// One place with K = 2. The constant is too large, so that the weight crawls to
+/// 1.375 by equal parts of what is left; the step is there at once.
+pub fn one_column(layout: Layout) -> SolveCase {
+    let corner = Corner {
+        columns: vec![vec![2.0]],
+        targets: vec![3.0],
+        kind: Kind::L1,
+        alpha: 0.5,
+        second: 0.0,
+        start: 1,
+        iterations: 1,
+        epochs: 3,
+        depth: 2,
+    };
+    corner.handed(&[5.0], &[6.0], layout)
+}
+
+/// Runs with which the list of extrapolated pairs begins, in both layouts.
+pub fn extrapolated_by_hand() -> Vec<FitCase> {
+    let cases = |layout| {
+        let equal = [(1, 2), (2, 2), (2, 3)].map(|(places, depth)| equal_columns(places, depth));
+        let mut cases = equal.map(|corner| corner.case(layout)).to_vec();
+        cases.extend([false, true].map(|turned| two_columns(turned, layout)));
+        cases.push(erased_by_steps(layout));
+        cases
+    };
+    LAYOUTS.map(cases).concat()
 }
 
 /// Constants that are too small let the second column swing past its end. The first

@@ -1,9 +1,9 @@
 //! How the lists of the runs are made: pairs, solves with handed numbers and working
-//! sets together, or one of the first two alone.
+//! sets together, one of the first two alone, or pairs that extrapolate.
 
 use super::pairs::{self, pairs};
 use super::solves::{self, solves};
-use super::{sets, PairCase, SetCase, SolveCase};
+use super::{extrapolated, sets, PairCase, SetCase, SolveCase};
 use crate::list::{refusals, Part, Recipe};
 use crate::random::Random;
 use crate::record::Record;
@@ -45,6 +45,15 @@ pub const HANDED: Recipe = Recipe {
     last: SolveCase::CODE,
     how: || [NUMBERS.to_vec(), solves::how()].concat(),
     part,
+    notes,
+};
+
+pub const EXTRAPOLATED: Recipe = Recipe {
+    layer: "extrapolated",
+    shares: &[],
+    last: PairCase::CODE,
+    how: || [&NUMBERS[..], &extrapolated::HOW].concat(),
+    part: extrapolated::part,
     notes,
 };
 

@@ -4,7 +4,7 @@
 use super::faults::Asked;
 use super::outcome::Outcome;
 use super::watch::NotFinite;
-use super::{Given, Numbers, PairCase, SolveCase};
+use super::{FitCase, Given, Numbers, PairCase, Report, Settings, SolveCase};
 use crate::calls::Runs;
 use crate::departures::{self, STEPS_PAIRED};
 use crate::leaves::Kind;
@@ -58,6 +58,18 @@ impl Made {
         }
     }
 
+    pub fn settings(&self) -> &Settings {
+        &self.given.fit.settings
+    }
+
+    /// Of a run that is answered, with its case.
+    pub fn report(&self) -> Option<(&FitCase, &Report)> {
+        match &self.run {
+            Some(Outcome::Finished(report)) => Some((&self.given.fit, report)),
+            _ => None,
+        }
+    }
+
     /// The refusal's number, by the call that refused.
     fn refused(&self, by: Asked, number: u32) -> bool {
         let at = match by {
@@ -81,7 +93,8 @@ impl Made {
     }
 
     fn not_taken(&self) -> bool {
-        matches!(&self.run, Some(Outcome::Finished(report)) if report.not_taken > 0)
+        self.report()
+            .is_some_and(|(_, report)| report.not_taken > 0)
     }
 }
 
@@ -101,6 +114,9 @@ fn remark(made: &[Made]) -> String {
     let answered = count(made, Made::finished);
     let refused = refusals(made, Asked::Solve);
     match refusals(made, Asked::Pair) {
+        none if none.is_empty() && refused.is_empty() => {
+            format!("{answered} answered, none refused")
+        }
         none if none.is_empty() => format!("{answered} answered, refused {refused}"),
         first => format!(
             "{answered} answered, refused by the preparation {first}, by the solve {refused}"

@@ -6,6 +6,7 @@
 mod answers;
 mod cases;
 mod corners;
+mod extrapolated;
 mod faults;
 mod handed;
 mod list;
@@ -21,9 +22,10 @@ mod watch;
 
 pub use cases::{any, extrapolated_from, not_finite, with_settings};
 pub use corners::{by_hand, handed_by_hand, named, LAYOUTS};
+pub use corners::{erased_by_steps, one_column, two_columns};
 pub use faults::{problem_faults, setting_pairs, settings_beside, Asked, Wanted};
 pub use handed::any as any_handed;
-pub use list::{HANDED, LIST, PAIRS};
+pub use list::{EXTRAPOLATED, HANDED, LIST, PAIRS};
 pub use outcome::{outcome, Outcome};
 pub use prepared::{Numbers, Prepared};
 pub use problems::{of_columns, repeated, targets, varied, Theme};

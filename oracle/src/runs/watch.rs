@@ -31,11 +31,23 @@ pub struct Report {
     pub iterations: u32,
     pub epochs: u32,
     pub extrapolations: u32,
-    /// Candidates of a smaller objective that were not taken, since one of their
-    /// entries isn't finite.
+    /// Candidates in all: a step whose system is singular has none.
+    pub candidates: u32,
+    /// Those of a smaller objective that were not taken, since one of their entries
+    /// isn't finite.
     pub not_taken: u32,
+    /// One for each iteration.
+    pub turns: Vec<Turn>,
     pub weights: Vec<f64>,
     pub fit: Vec<f64>,
+}
+
+/// An iteration: what its working set is built of, and how many epochs it has.
+#[derive(Debug)]
+pub struct Turn {
+    pub weights: Vec<f64>,
+    pub violations: Vec<f64>,
+    pub epochs: u32,
 }
 
 #[derive(Clone)]
@@ -57,17 +69,17 @@ struct Seen {
     iterations: u32,
     /// The work that is left: a gradient costs as much as there are samples.
     work: u64,
-    /// Checks of all features, of which each but the last has built a working
-    /// set.
-    checks: u32,
+    /// Begun by the checks of all features, of which each but the last has built a
+    /// working set.
+    turns: Vec<Turn>,
     /// The largest violation of the last of them.
     violation: f64,
-    /// Epochs begun, in all and since the last check of all features.
+    /// Epochs begun.
     epochs: u32,
-    epochs_of_set: u32,
     /// Whether the working set was checked since this epoch began.
     set_checked: bool,
     extrapolations: u32,
+    candidates: u32,
     not_taken: u32,
     /// Where the run is.
     point: Point,
@@ -158,7 +170,8 @@ impl Seen {
     /// before any check of all features; the features themselves don't tell,
     /// since the working set may be all of them.
     fn checks_set(&self) -> bool {
-        let epoch = self.epochs_of_set.saturating_sub(1);
+        let epochs = self.turns.last().map_or(0, |turn| turn.epochs);
+        let epoch = epochs.saturating_sub(1);
         epoch > 0 && epoch.is_multiple_of(10) && !self.set_checked
     }
 }
@@ -168,12 +181,12 @@ impl Watch {
         Watch(RefCell::new(Seen {
             iterations,
             work,
-            checks: 0,
+            turns: Vec::new(),
             violation: f64::NAN,
             epochs: 0,
-            epochs_of_set: 0,
             set_checked: false,
             extrapolations: 0,
+            candidates: 0,
             not_taken: 0,
             point: Point::zero(samples, features),
             candidate: None,
@@ -196,7 +209,8 @@ impl Watch {
     pub fn epoch(&self) {
         let mut seen = self.0.borrow_mut();
         seen.epochs += 1;
-        seen.epochs_of_set += 1;
+        let turn = seen.turns.last_mut();
+        turn.expect("a check comes first").epochs += 1;
         seen.set_checked = false;
     }
 
@@ -227,7 +241,9 @@ impl Watch {
     }
 
     pub fn candidate(&self, weights: Vec<f64>, fit: Vec<f64>) {
-        self.0.borrow_mut().candidate = Some(Candidate {
+        let mut seen = self.0.borrow_mut();
+        seen.candidates += 1;
+        seen.candidate = Some(Candidate {
             point: Point { weights, fit },
             values: Vec::new(),
         });
@@ -268,10 +284,13 @@ impl Watch {
             seen.set_checked = true;
             return largest;
         }
-        seen.checks += 1;
-        seen.epochs_of_set = 0;
+        seen.turns.push(Turn {
+            weights: weights.to_vec(),
+            violations: violations.to_vec(),
+            epochs: 0,
+        });
         seen.violation = largest;
-        if seen.checks > seen.iterations {
+        if seen.turns.len() > seen.iterations as usize {
             return f64::NEG_INFINITY;
         }
         largest
@@ -279,15 +298,19 @@ impl Watch {
 
     /// After the run, with the weights that the Rust gives back.
     pub fn report(self, weights: &[f64]) -> Report {
-        let seen = self.0.into_inner();
+        let mut seen = self.0.into_inner();
         let expected = &seen.point.weights;
         assert!(same(expected, weights), "the run's weights are others");
+        // The last check has built no working set.
+        seen.turns.pop();
         Report {
             violation: seen.violation,
-            iterations: seen.checks - 1,
+            iterations: seen.turns.len() as u32,
             epochs: seen.epochs,
             extrapolations: seen.extrapolations,
+            candidates: seen.candidates,
             not_taken: seen.not_taken,
+            turns: seen.turns,
             weights: seen.point.weights,
             fit: seen.point.fit,
         }
