@@ -8,7 +8,7 @@ use crate::leaves::{Kind, Penalty};
 use crate::random::Random;
 use crate::record::Variant;
 use crate::runs::{any, any_handed, by_hand, handed_by_hand, named, FitCase, Numbers, Outcome};
-use crate::runs::{erased_by_steps, one_column, two_columns, Report};
+use crate::runs::{equal_columns, erased_by_steps, one_column, two_columns, Report};
 use crate::runs::{NotFinite, Prepared, SolveCase, Theme, LAYOUTS};
 use crate::{loops, published};
 
@@ -224,6 +224,10 @@ fn check_matrix() -> Result<(), String> {
         let loops_turns = turns::<loops::Rust>(layout)?;
         check_that("loops turns with its column", loops_turns == amended)?;
         check_that("published does not", !turns::<published::Rust>(layout)?)?;
+
+        let three = report_of::<loops::Rust>(&equal_columns(2, 3, layout))?;
+        let accepts = three.extrapolations > 0;
+        check_that("two columns extrapolate with K = 3", accepts == amended)?;
 
         let SolveCase(given) = one_column(layout);
         let handed = one_column(layout).handed();

@@ -219,11 +219,12 @@ pub fn two_columns(turned: bool, layout: Layout) -> FitCase {
     corner.case(layout)
 }
 
-/// Equal columns of one sample, as many as there are places.
-fn equal_columns(places: usize, depth: u32) -> Corner {
-    Corner {
+/// Equal columns of one sample, as many as there are places. Two of them accept the
+/// step with K = 2 and with K = 3; one is at its end before.
+pub fn equal_columns(places: usize, depth: u32, layout: Layout) -> FitCase {
+    let corner = Corner {
         columns: vec![vec![1.0]; places],
-        targets: vec![1.0],
+        targets: vec![2.0],
         kind: Kind::L1PlusL2,
         alpha: 1.0,
         second: 0.5,
@@ -231,7 +232,8 @@ fn equal_columns(places: usize, depth: u32) -> Corner {
         iterations: 1,
         epochs: depth + 1,
         depth,
-    }
+    };
+    corner.case(layout)
 }
 
 /// One place with K = 2. The constant is too large, so that the weight crawls to
@@ -254,8 +256,10 @@ pub fn one_column(layout: Layout) -> SolveCase {
 /// Runs with which the list of extrapolated pairs begins, in both layouts.
 pub fn extrapolated_by_hand() -> Vec<FitCase> {
     let cases = |layout| {
-        let equal = [(1, 2), (2, 2), (2, 3)].map(|(places, depth)| equal_columns(places, depth));
-        let mut cases = equal.map(|corner| corner.case(layout)).to_vec();
+        let equal = [(1, 2), (2, 2), (2, 3)];
+        let mut cases = equal
+            .map(|(p, depth)| equal_columns(p, depth, layout))
+            .to_vec();
         cases.extend([false, true].map(|turned| two_columns(turned, layout)));
         cases.push(erased_by_steps(layout));
         cases

@@ -22,7 +22,7 @@ mod watch;
 
 pub use cases::{any, extrapolated_from, not_finite, with_settings};
 pub use corners::{by_hand, handed_by_hand, named, LAYOUTS};
-pub use corners::{erased_by_steps, one_column, two_columns};
+pub use corners::{equal_columns, erased_by_steps, one_column, two_columns};
 pub use faults::{problem_faults, setting_pairs, settings_beside, Asked, Wanted};
 pub use handed::any as any_handed;
 pub use list::{EXTRAPOLATED, HANDED, LIST, PAIRS};
