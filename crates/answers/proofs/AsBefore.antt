@@ -1,5 +1,5 @@
--- The program prints what it printed before request 5: it keeps document 01's order, and its places have room for both. A refusal's line has neither weights
--- nor fit, so that it does not matter what the preparation's 7 leaves of them. Assumes nothing.
+-- The program prints what it would print if it made the single call: it keeps document 01's order, and its places have room for both. A refusal's line has
+-- neither weights nor fit, so that it does not matter what the preparation's 7 leaves of them. Assumes nothing.
 use mathlib.Core.Path.{_≡_, refl}
 use mathlib.Core.Bool.{Bool, true, false}
 use Prim.Native.Nat.{ℕ, _+_, _*_, _≤_}

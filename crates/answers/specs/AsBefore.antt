@@ -1,5 +1,5 @@
--- Request 5: "The single call goes; its callers, the program too, are amended". What the program printed for a problem while it made that call, in room for
--- its largest sizes: it prints the same (proofs/AsBefore).
+-- Request 5: "The single call goes; its callers, the program too, are amended". What the program would print for a problem if it made that call, in room
+-- for its largest sizes: it prints the same (proofs/AsBefore).
 use mathlib.Core.List.{List}
 use Prim.Native.Nat.{ℕ}
 use lib.ListN.{take, replicate}
