@@ -4,9 +4,9 @@
 use crate::cases::{Case, Penalty};
 use crate::float::Loops as F;
 use ndarray::{Array1, Array2, ArrayView1};
-use sparseglm_loops::estimators::matrix::as_published;
 use sparseglm_loops::datafits::single_task::{Datafit, Quadratic};
 use sparseglm_loops::datasets::{csc_array::CSCArray, DatasetBase, DesignMatrix};
+use sparseglm_loops::estimators::matrix::as_published;
 use sparseglm_loops::penalties::separable::{L1PlusL2, Penalty as Calls, L1, MCP};
 use sparseglm_loops::solvers::anderson_cd::coordinate_descent;
 use std::cell::Cell;
