@@ -1,7 +1,7 @@
--- The system's rows are arrays of a fixed size that start as zeros: a loop writes the first places, and the rest stays. Also where a kept row
--- lies. Assumes nothing.
+-- The system's rows are arrays of a fixed size that start as zeros: a loop writes the first places, and the rest stays. A pair of steps is the same both
+-- ways, so what stands below the diagonal is found in the rows above. Also where a kept row lies. Assumes nothing.
 use mathlib.Core.Path.{_≡_, refl, ap, _∙_}
-use Prim.Native.Nat.{ℕ, suc, _+_, _-_, _*_, _≤_, _<_}
+use Prim.Native.Nat.{ℕ, suc, _+_, _*_, _≤_, _<_}
 use native.Mathlib.Nat.{le-antisymm, le-refl}
 use native.Mathlib.Omega.{arith}
 use mathlib.Core.List.{List, [], _++_}

@@ -92,7 +92,7 @@ module _ (c : ℕ → Bool) (t : Bool) (X : Design) (other : ℕ → ℕ → Flo
       steps-related (λ (k : ℕ). Signs (λ (i : ℕ). t)) _ _ (length ws) _ _ (signs-zeros (λ (i : ℕ). t) (X .n))
       (λ k l f f' r. let j = getD ws k 0 in moved-turned X other j (c j) t (λ i m. entries j i (C .each k l) m) (v .each j (C .each k l)) r)
 
-  -- ---- the rows that are kept: both steps of a pair turn with the feature of a place, so its entry is the same
+  -- ---- the rows that are kept: at each place both steps of a pair turn together, so their entry is the same
   entry-same : {ws : List ℕ} {kept kept' : List Float} → Rows turning ws (suc (S .depth)) kept kept' → (k l : ℕ) → k < S .depth → l < S .depth
       → entry (X .p) (length ws) kept k l ≡ entry (X .p) (length ws) kept' k l
   unfolding entry
