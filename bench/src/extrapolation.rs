@@ -52,8 +52,10 @@ fn row(name: &str, off: Case) {
     let mut cells = format!("| {name} | {epochs} |");
     for (run, time) in runs.iter().zip(times).skip(1) {
         let (epochs, accepted) = run.counts(name, &mut inputs);
-        let published = steps::fit_as_published(&run.case, &mut inputs).epochs;
-        cells += &format!(" {epochs} | {accepted} | {published} | {:.2} |", time / times[0]);
+        let published = steps::fit_as_published(&run.case, &mut inputs);
+        let violation = fast::largest_violation(&run.case, published.weights);
+        assert!(violation <= 1.001 * run.case.settings.tolerance, "{name}: the published matrix does not come within the tolerance");
+        cells += &format!(" {epochs} | {accepted} | {} | {:.2} |", published.epochs, time / times[0]);
     }
     println!("{cells}");
 }

@@ -308,6 +308,18 @@ pub fn prepare(case: &Case) -> Prepared {
     Prepared { constants: design.all(p, None).into_iter().map(|s| s / n as f64).collect(), products: design.all(p, Some(&case.targets)) }
 }
 
+/// The largest violation at weights of whichever program. Their fit is summed anew, so its last digits may be others.
+pub fn largest_violation(case: &Case, w: Vec<f64>) -> f64 {
+    let (n, design, Prepared { constants, products }) = (case.n as usize, Columns::of(case), prepare(case));
+    let support: Vec<usize> = (0..w.len()).filter(|&j| w[j] != 0.0).collect();
+    let mut fit = vec![0.0; n];
+    match design.copied(n, &support) {
+        Some(columns) => support.iter().enumerate().for_each(|(k, &j)| columns.gain(k, w[j], &mut fit)),
+        None => support.iter().for_each(|&j| design.gain(j, w[j], &mut fit)),
+    }
+    Run { case, design, constants: &constants, products: &products, w, fit, epochs: 0, accepted: 0 }.violations().1
+}
+
 /// A whole fit by itself.
 pub fn fit(case: &Case) -> Ending {
     solve(case, &prepare(case))

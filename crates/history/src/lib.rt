@@ -76,6 +76,7 @@ fn paired(kept: &[f64], shape: Kept, size: usize, above: [[f64; 11]; 10], k: usi
     entry(kept, shape, size, k, l)
 }
 
+// Row k of the system: step k paired with each, and 1 on the right-hand side.
 fn system_row(kept: &[f64], shape: Kept, size: usize, above: [[f64; 11]; 10], k: usize) -> [f64; 11]
     requires { ⌜ (k < shape .depth) × (shape .depth ≤ 10) × (size ≤ shape .p) × (suc (shape .depth) * shape .p ≤ length (now kept))
         × filling.RowsAbove shape size (now kept) k above ⌝ }
@@ -92,6 +93,7 @@ fn system_row(kept: &[f64], shape: Kept, size: usize, above: [[f64; 11]; 10], k:
     row
 }
 
+// The system of the K steps, row by row.
 pub fn system(kept: &[f64], shape: Kept, size: usize) -> [[f64; 11]; 10]
     requires { ⌜ (shape .depth ≤ 10) × (size ≤ shape .p) × (suc (shape .depth) * shape .p ≤ length (now kept)) ⌝ }
     ensures { λ r. ⌜ r ≡ ext.system (shape .depth) (shape .p) size (now (kept .entry)) ⌝ }
