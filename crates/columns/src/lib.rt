@@ -1,5 +1,7 @@
 // Inner functions over single columns of a design in either layout. The caller has tested the design, so nothing is tested here and nothing
 // is exported. A column operation touches the column's stored entries and nothing of size n or p besides.
+#![tactic(auto)]
+
 ghost use Rattle.std.specs.Prelude.{◌≡◌, ℕ, ◌+◌, ◌-◌, ◌*◌, ◌<◌, ◌≤◌, length, get_or, set};
 ghost use Rattle.doubles.specs.Num.{#0, at, finite};
 ghost use Rattle.doubles.specs.Steps.{all, tab};
@@ -86,7 +88,7 @@ pub fn all_finite(xs: &[f64]) -> bool
 }
 
 // Where a sparse column lies among the stored entries: its first, and how many.
-#[derive(Drop)]
+#[derive(Clone, Copy, Drop)]
 pub struct Stored {
     pub start: usize,
     pub many: usize,

@@ -1,5 +1,7 @@
 // Designs in both layouts, and what is tested of them before a call does its work. A design is a shape and three slices: the stored values,
 // and for CSC the column starts and the row of each stored value; a dense design has no starts and no rows, and lies row by row.
+#![tactic(auto)]
+
 ghost use Rattle.std.specs.Prelude.{◌≡◌};
 ghost use Rattle.doubles.specs.Answer.{verdict_of};
 ghost use Rattle.designs.specs.Given.{given};
@@ -10,14 +12,14 @@ use doubles::Verdict;
 pub mod inner;
 
 // How a design lies in memory.
-#[derive(Drop)]
+#[derive(Clone, Copy, Drop)]
 pub enum Layout {
     Dense,
     Csc,
 }
 
 // What is known of a design beside its slices: n samples, p features.
-#[derive(Drop)]
+#[derive(Clone, Copy, Drop)]
 pub struct Shape {
     pub layout: Layout,
     pub n: usize,
@@ -25,15 +27,15 @@ pub struct Shape {
 }
 
 // The number of a sample, a row of the design. It indexes targets and fits.
-#[derive(Drop)]
+#[derive(Clone, Copy, Drop)]
 pub struct Sample(pub usize);
 
 // The number of a feature, a column of the design. It indexes weights, gradients and prepared numbers.
-#[derive(Drop)]
+#[derive(Clone, Copy, Drop)]
 pub struct Feature(pub usize);
 
 // The first place of a fault.
-#[derive(Drop)]
+#[derive(Clone, Copy, Drop)]
 pub enum Found {
     At(usize),
     Nowhere,

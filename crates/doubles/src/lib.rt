@@ -1,5 +1,7 @@
 // Functions of doubles that Rattle has no operator for: each equals its definition (specs/Num.antt) on every double. And what a call that
 // may refuse answers.
+#![tactic(auto)]
+
 ghost use Rattle.std.specs.Prelude.{◌≡◌};
 ghost use Rattle.std.specs.Float.{binary64};
 ghost use Rattle.std.specs.Float.Ieee.{of_bits};
@@ -8,21 +10,21 @@ ghost use Rattle.doubles.specs.Num as num;
 pub mod inner;
 
 // A refusal: document 01's number and place.
-#[derive(Drop)]
+#[derive(Clone, Copy, Drop)]
 pub struct Refusal {
     pub number: u32,
     pub place: usize,
 }
 
 // What tests say.
-#[derive(Drop)]
+#[derive(Clone, Copy, Drop)]
 pub enum Verdict {
     Fine,
     Refused(Refusal),
 }
 
 // What a call that answers a double answers.
-#[derive(Drop)]
+#[derive(Clone, Copy, Drop)]
 pub enum Number {
     Refused(Refusal),
     Is(f64),

@@ -6,14 +6,14 @@ ghost use Rattle.elimination.specs.Answer as answer;
 use crate::inner::{eliminate, is_regular, read_off};
 use doubles::Refusal;
 
-#[derive(Drop)]
+#[derive(Clone, Copy, Drop)]
 pub enum Ending {
     Refused(Refusal),
     Singular,
     Solved,
 }
 
-#[derive(Drop)]
+#[derive(Clone, Copy, Drop)]
 pub struct Solution {
     pub ending: Ending,
     pub z: [f64; 10],

@@ -4,7 +4,7 @@ ghost use Rattle.std.specs.Prelude.{◌≡◌, ◌+◌, ◌<◌, ◌≤◌};
 ghost use Rattle.elimination.specs.Elimination as gauss;
 
 // A pivot's place, the first column that its passes change, and the size of the system.
-#[derive(Drop)]
+#[derive(Clone, Copy, Drop)]
 pub struct Pivot {
     pub place: usize,
     pub from: usize,

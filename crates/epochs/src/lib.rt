@@ -1,5 +1,6 @@
 // The epochs of one working set, over a design, prepared numbers, settings and buffers already tested. Of the scratch, the first p places hold the
 // violations of all features, and the rest is the extrapolation's.
+#![tactic(auto)]
 ghost use Rattle.std.specs.Prelude.{◌≡◌, List, ℕ, ◌+◌, ◌≤◌, ◌<◌, length, get_or};
 ghost use Rattle.designs.specs.Given.{given};
 ghost use Rattle.designs.specs.Inner.Sound.{Whole};
@@ -15,14 +16,14 @@ use extrapolation::anderson_accel;
 use visits::{Worst, cd_epoch, ws_violation};
 
 // What is counted within the working sets.
-#[derive(Drop)]
+#[derive(Clone, Copy, Drop)]
 pub struct Counts {
     pub epochs: usize,
     pub extrapolations: usize,
 }
 
 // How an epoch ends: the next one may begin, this one was the last, or a number was not finite.
-#[derive(Drop)]
+#[derive(Clone, Copy, Drop)]
 pub enum InnerStep {
     Going(Counts),
     Stopped(Counts),

@@ -1,4 +1,5 @@
 // Problem files on a byte slice: fields of one-byte tag, two-byte length and body, all little-endian.
+#![tactic(auto)]
 ghost use Rattle.std.specs.Prelude.{◌≡◌, true, ◌+◌, ◌≤◌, length};
 ghost use Rattle.doubles.specs.Answer.{refused as refused'};
 ghost use Rattle.files.specs.Problem as def;
@@ -14,7 +15,7 @@ use penalties::separable::Penalty;
 pub mod inner;
 
 // What was read: up to place `at`, the last field with tag `tag`; and how many elements each array has.
-#[derive(Drop)]
+#[derive(Clone, Copy, Drop)]
 pub struct Cursor {
     pub at: usize,
     pub tag: usize,
@@ -25,7 +26,7 @@ pub struct Cursor {
 }
 
 // The numbers of a problem, and how many places each of its arrays has.
-#[derive(Drop)]
+#[derive(Clone, Copy, Drop)]
 pub struct Sizes {
     pub shape: Shape,
     pub settings: Settings,
@@ -35,7 +36,7 @@ pub struct Sizes {
     pub rows: usize,
 }
 
-#[derive(Drop)]
+#[derive(Clone, Copy, Drop)]
 pub enum Parsed {
     Refused(Refusal),
     Read(Sizes),

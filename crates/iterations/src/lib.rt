@@ -1,5 +1,6 @@
 // The outer iterations of a run, over a design, prepared numbers, settings and buffers already tested. The scratch is laid out as the inner loops
 // have it.
+#![tactic(auto)]
 ghost use Rattle.std.specs.Prelude.{◌≡◌, true, List, ℕ, ◌+◌, ◌≤◌, ◌<◌, length};
 ghost use Rattle.doubles.specs.Steps.{zeros};
 ghost use Rattle.designs.specs.Given.{given};
@@ -22,7 +23,7 @@ use visits::{Worst, opt_cond_violation};
 use worksets::inner::construct_ws;
 
 // What is counted over a run, and the violation last found.
-#[derive(Drop)]
+#[derive(Clone, Copy, Drop)]
 pub struct Totals {
     pub violation: f64,
     pub iterations: usize,
@@ -30,7 +31,7 @@ pub struct Totals {
 }
 
 // How a turn of the outer loop ends.
-#[derive(Drop)]
+#[derive(Clone, Copy, Drop)]
 pub enum OuterStep {
     Going(Totals),
     Stopped(Totals),
@@ -38,7 +39,7 @@ pub enum OuterStep {
 }
 
 // How a run ends.
-#[derive(Drop)]
+#[derive(Clone, Copy, Drop)]
 pub enum RunEnd {
     GivenUp(Refusal),
     Done(Totals),

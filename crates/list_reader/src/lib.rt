@@ -1,5 +1,6 @@
 // Reads the lists of an oracle's answers. A line that begins with `#` is a comment; any other is a record, hex words with spaces between
 // them. A double is a word, its bits.
+#![tactic(auto)]
 ghost use Rattle.std.specs.Prelude.{◌≡◌, ◌≤◌, true, length};
 ghost use Rattle.list_reader.specs.Count.{count_of};
 

@@ -1,4 +1,5 @@
 // The listing of a fit, or the line of its refusal, as bytes in a lent buffer.
+#![tactic(auto)]
 ghost use Rattle.std.specs.Prelude.{◌≡◌, length};
 ghost use Rattle.doubles.specs.Answer.{refused as refused'};
 ghost use Rattle.definition.specs.Call.{fit_of};
@@ -10,7 +11,7 @@ use doubles::Refusal;
 pub mod inner;
 
 // The call's answer: a refusal, or how many bytes the listing has.
-#[derive(Drop)]
+#[derive(Clone, Copy, Drop)]
 pub enum Written {
     Refused(Refusal),
     Bytes(usize),

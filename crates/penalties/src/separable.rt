@@ -7,7 +7,7 @@ use crate::inner;
 use crate::prox_funcs::soft_thresholding;
 use doubles::{Number, Refusal, Verdict, abs, signum};
 
-#[derive(Drop)]
+#[derive(Clone, Copy, Drop)]
 pub enum Penalty {
     L1 { alpha: f64 },
     L1PlusL2 { alpha: f64, l1_ratio: f64 },

@@ -1,4 +1,5 @@
 // Replays a list of the oracle's answers through the designs and the datafit. The list's name is the first argument.
+#![tactic(auto)]
 mod arrays;
 mod record;
 

@@ -1,4 +1,5 @@
 // Replays a list of the oracle's answers through the leaves. The list's name is the first argument.
+#![tactic(auto)]
 mod record;
 
 use list_reader::list;

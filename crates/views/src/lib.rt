@@ -1,5 +1,6 @@
 // A sparse design as one view: its three slices travel together. Each call over a view is thin: it takes the view apart, and `inner` does the work
 // on the slices, as the public call of the crate below for a CSC design.
+#![tactic(auto)]
 ghost use Rattle.std.specs.Prelude.{[], ◌≡◌};
 ghost use Rattle.doubles.specs.Answer.{number_of, verdict_of};
 ghost use Rattle.designs.specs.Design.{csc_shape};
@@ -18,7 +19,7 @@ use doubles::{Number, Verdict};
 pub mod inner;
 
 // Column starts, the row of each stored value, and the stored values.
-#[derive(Drop)]
+#[derive(Clone, Copy, Drop)]
 pub struct CSCArray<'a> {
     pub starts: &'a [u32],
     pub rows: &'a [u32],

@@ -1,5 +1,6 @@
 // Inner functions of the solver over a design and prepared numbers already checked: violations, and the visits of one epoch. `prepared` holds
 // p constants, then X'y.
+#![tactic(auto)]
 ghost use Rattle.std.specs.Prelude.{◌≡◌, ℕ, ◌+◌, ◌<◌, ◌≤◌, length, get_or};
 ghost use Rattle.designs.specs.Design as design;
 ghost use Rattle.designs.specs.Inner.Sound.{Whole};
@@ -15,7 +16,7 @@ use penalties::separable::{Penalty, prox};
 use quadratic::gradient_j;
 
 // The largest violation, or that a gradient or a violation is not finite.
-#[derive(Drop)]
+#[derive(Clone, Copy, Drop)]
 pub enum Worst {
     Bad,
     Is(f64),

@@ -1,4 +1,5 @@
 // The working set: the features that the epochs of one iteration visit.
+#![tactic(auto)]
 ghost use Rattle.std.specs.Prelude.{◌≡◌};
 ghost use Rattle.doubles.specs.Answer.{refused as refused'};
 ghost use Rattle.worksets.specs.Call as calls;
@@ -9,7 +10,7 @@ use doubles::Refusal;
 pub mod inner;
 
 // The stand-alone call's answer: a refusal, or the size of the set.
-#[derive(Drop)]
+#[derive(Clone, Copy, Drop)]
 pub enum WorkingSet {
     Refused(Refusal),
     Size(usize),

@@ -83,7 +83,7 @@ unfolding is_nan
 at_least_zero nan h k = absurd (true≢false k)
 at_least_zero (inf true) h k = absurd (true≢false (unfold lt of_bits in h))
 at_least_zero (inf false) h k = unfold le lt of_bits in refl
-at_least_zero (fin s zero e) h k = unfold le lt eq of_bits in rw (zero₂ 1 (down e), zero₂ (up e) 1, or-true (beq false s)) (or-true (below false 0 s 0))
+at_least_zero (fin s zero e) h k = unfold le lt eq of_bits in rw (zero₂ 1 (down e), zero₂ (up e) 1, or-true (beq false s)) (or-true _)
 at_least_zero (fin true (suc m) e) h k = absurd (true≢false (sym (neg-lt m e) ∙ h))
 at_least_zero (fin false (suc m) e) h k = unfold le in rw (pos_gt m e)
 

@@ -1,0 +1,16 @@
+-- `clear_above`: the invariant is the definition's loop down to row t. Assumes nothing.
+use mathlib.Core.Path.{◌≡◌, ◌∙◌}
+use Prim.Native.Nat.{◌≤◌, ◌-◌}
+use Rattle.doubles.specs.Steps.{downward}
+use Rattle.doubles.proofs.Laws.Steps.{downward-none, downward-more, downward-all}
+use Rattle.elimination.specs.Elimination.{cleared, cleared_above}
+use native.Mathlib.Omega.{arith}
+use borrow.Author.Rules.{rules}
+use Rattle.elimination.proofs.inner.clear_above.Given as goal
+
+abbrev pub invariant-loop-t : goal.invariant-loop-t
+invariant-loop-t l = (l.t ≤ l.i) × (l.a ≡ downward (cleared l.i 0 l.size) l.i (l.i - l.t) l.initial.a)
+
+abbrev pub decreases-loop-t : goal.decreases-loop-t
+decreases-loop-t l = l.t
+

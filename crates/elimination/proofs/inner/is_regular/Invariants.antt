@@ -1,0 +1,18 @@
+-- `is_regular`: the invariant is that no zero stands on the diagonal before i. Assumes nothing.
+use mathlib.Core.Path.{◌≡◌}
+use Prim.Native.Nat.{◌≤◌, ◌-◌}
+use mathlib.Core.Bool.{true, not}
+use lib.Ieee.{eq}
+use Rattle.doubles.specs.Num.{#0}
+use Rattle.doubles.specs.Steps.{all}
+use Rattle.doubles.proofs.Laws.Steps.{steps-none, steps_all, all_more, all_broken}
+use Rattle.elimination.specs.Elimination.{cell, regular}
+use native.Mathlib.Omega.{arith}
+use Rattle.elimination.proofs.inner.is_regular.Given as goal
+
+abbrev pub invariant-loop-i : goal.invariant-loop-i
+invariant-loop-i l = (l.i ≤ l.size) × (true ≡ all (λ k. not (eq (cell l.a k k) #0)) l.i)
+
+abbrev pub decreases-loop-i : goal.decreases-loop-i
+decreases-loop-i l = l.size - l.i
+

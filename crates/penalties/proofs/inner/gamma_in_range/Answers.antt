@@ -1,0 +1,13 @@
+-- `gamma_in_range`: finite, and then the bound. Assumes nothing.
+use Rattle.doubles.specs.Num.{◌and◌}
+use Rattle.penalties.specs.Penalty.{gamma_legal}
+use borrow.Author.Rules.{rules}
+use Rattle.penalties.proofs.inner.gamma_in_range.Goals as goal
+
+pub returns-then-is_finite : goal.returns-then-is_finite
+unfolding gamma_legal ◌and◌
+returns-then-is_finite c = rw (← c.is_finite.ensures, c.if-is_finite.true)
+
+pub returns-else-is_finite : goal.returns-else-is_finite
+unfolding gamma_legal ◌and◌
+returns-else-is_finite c = rw (← c.is_finite.ensures, c.if-is_finite.false)

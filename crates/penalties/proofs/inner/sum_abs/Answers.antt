@@ -1,0 +1,33 @@
+-- `sum_abs`: the invariant is the sum of the weights passed. Assumes nothing.
+use mathlib.Core.Path.{◌≡◌}
+use Prim.Native.Nat.{◌≤◌, ◌-◌}
+use lib.ListN.{length}
+use Rattle.doubles.specs.Num.{at, abs}
+use Rattle.doubles.specs.Steps.{sum as total}
+use Rattle.doubles.proofs.Laws.Steps.{steps-none, steps-turn, steps_all}
+use Rattle.penalties.specs.Penalty.{sum_abs}
+use native.Mathlib.Omega.{arith}
+use borrow.Author.Rules.{rules}
+use Rattle.penalties.proofs.inner.sum_abs.Goals as goal
+
+pub loop-j-init : goal.loop-j-init
+loop-j-init c = (omega arith, steps-none _ _)
+
+pub offset_bounds-w-j : goal.offset_bounds-w-j
+offset_bounds-w-j c = omega arith
+
+pub bounds-w-j : goal.bounds-w-j
+bounds-w-j c = omega arith
+
+pub overflow_add-j : goal.overflow_add-j
+overflow_add-j c = omega arith
+
+pub loop-j-smaller : goal.loop-j-smaller
+loop-j-smaller c = omega arith
+
+pub loop-j-preserved : goal.loop-j-preserved
+loop-j-preserved c = (omega arith, steps-turn _ _ _ _ _ c.loop-j.invariant.1 (rw c.abs-sum.ensures))
+
+pub returns : goal.returns
+unfolding sum_abs
+returns c = steps_all _ _ _ _ _ c.loop-j.invariant.1 c.loop-j.invariant.0 c.loop-j-test.false

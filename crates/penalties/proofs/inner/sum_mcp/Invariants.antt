@@ -1,0 +1,18 @@
+-- `sum_mcp`: the invariant is the sum of the weights passed. Assumes nothing.
+use mathlib.Core.Path.{◌≡◌}
+use Prim.Native.Nat.{◌≤◌, ◌-◌}
+use lib.ListN.{length}
+use Rattle.doubles.specs.Num.{at}
+use Rattle.doubles.specs.Steps.{sum as total}
+use Rattle.doubles.proofs.Laws.Steps.{steps-none, steps-turn, steps_all}
+use Rattle.penalties.specs.Penalty.{sum_mcp, mcp_of}
+use native.Mathlib.Omega.{arith}
+use borrow.Author.Rules.{rules}
+use Rattle.penalties.proofs.inner.sum_mcp.Given as goal
+
+abbrev pub invariant-loop-j : goal.invariant-loop-j
+invariant-loop-j l = (l.j ≤ length l.w) × (l.sum ≡ total (λ k. mcp_of l.alpha l.gamma (at l.w k)) l.j)
+
+abbrev pub decreases-loop-j : goal.decreases-loop-j
+decreases-loop-j l = length l.w - l.j
+
