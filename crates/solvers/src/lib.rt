@@ -1,6 +1,7 @@
 // Coordinate descent over working sets: the solve, which runs with the prepared numbers that it is handed. It tests its input first and refuses with
 // the documents' number and place; refused with 1 to 6 or 10, it changes no lent buffer, and with 7 it leaves the room it used at zero.
 #![tactic(auto)]
+
 ghost use Rattle.std.specs.Prelude.{◌≡◌, true, ◌+◌, ◌≤◌, length};
 ghost use Rattle.doubles.specs.Num as num;
 ghost use Rattle.doubles.specs.Answer.{none, verdict_of, ◌then◌};

@@ -1,0 +1,22 @@
+-- `start_run`: the buffers are cleared, so the run starts from zero weights and zero fit, with nothing kept. Assumes nothing.
+use mathlib.Core.Path.{◌∙◌}
+use Rattle.definition.specs.Call.{solved}
+use Rattle.epochs.proofs.Laws.Ready.{ready_still}
+use Rattle.iterations.proofs.Laws.Cleared.{cleared-kept}
+use borrow.Author.Rules.{rules}
+use Rattle.iterations.proofs.start_run.Goals as goal
+
+pub run-requires : goal.run-requires
+run-requires c =
+    let ready = c.requires.0 in (
+      ready_still ready _ _ _ c.clear.auto.buf c.clear-2.auto.buf c.clear-3.auto.buf,
+      c.requires.1,
+      c.requires.2,
+      c.clear.ensures ∙ rw ready.weights,
+      c.clear-2.ensures ∙ rw ready.fits,
+      cleared-kept ready c.clear-3.new.buf c.clear-3.ensures,
+    )
+
+pub returns : goal.returns
+unfolding solved
+returns c = c.run.ensures
