@@ -1,6 +1,7 @@
 // The quadratic datafit over a design in either layout: the public calls. Each tests its input first and refuses with document 01's number
 // and place; refused, it changes no lent buffer. `prepared` is what the Rust's Quadratic holds: p Lipschitz constants, then the p entries of X'y.
 #![tactic(auto)]
+
 ghost use Rattle.std.specs.Prelude.{[], ◌≡◌};
 ghost use Rattle.doubles.specs.Answer.{number_of, verdict_of};
 ghost use Rattle.designs.specs.Design as def;

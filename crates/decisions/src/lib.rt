@@ -1,6 +1,7 @@
 // What a call and its run decide by: sizes, the settings' ranges and the room they ask for, whether the prepared numbers may be used, when epochs
 // are checked and when they are enough, and the status; and what a walk decides by: its list of alphas, and whether a fit is usable.
 #![tactic(auto)]
+
 ghost use Rattle.std.specs.Prelude.{◌≡◌, ◌+◌, ◌≤◌, ◌<◌, length};
 ghost use Rattle.std.specs.Float.Ieee.{le, lt};
 ghost use Rattle.doubles.specs.Num as num;

@@ -1,6 +1,7 @@
 // The epochs of one working set, over a design, prepared numbers, settings and buffers already tested. Of the scratch, the first p places hold the
 // violations of all features, and the rest is the extrapolation's.
 #![tactic(auto)]
+
 ghost use Rattle.std.specs.Prelude.{◌≡◌, List, ℕ, ◌+◌, ◌≤◌, ◌<◌, length, get_or};
 ghost use Rattle.designs.specs.Given.{given};
 ghost use Rattle.designs.specs.Inner.Sound.{Whole};

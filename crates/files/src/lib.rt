@@ -1,5 +1,6 @@
 // Problem files on a byte slice: fields of one-byte tag, two-byte length and body, all little-endian.
 #![tactic(auto)]
+
 ghost use Rattle.std.specs.Prelude.{◌≡◌, true, ◌+◌, ◌≤◌, length};
 ghost use Rattle.doubles.specs.Answer.{refused as refused'};
 ghost use Rattle.files.specs.Problem as def;

@@ -1,6 +1,7 @@
 // What is kept of K+1 epochs: a row of it written, the steps from row to row, the system that pairs them, and rows combined. Row r holds, from place r·p
 // on, the working set's weights in its order.
 #![tactic(auto)]
+
 ghost use Rattle.std.specs.Prelude.{◌≡◌, ℕ, suc, ◌+◌, ◌*◌, ◌<◌, ◌≤◌, length, get_or};
 ghost use Rattle.doubles.specs.Num as num;
 ghost use Rattle.doubles.specs.Buffer.{put};

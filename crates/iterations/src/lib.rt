@@ -1,6 +1,7 @@
 // The outer iterations of a run, over a design, prepared numbers, settings and buffers already tested. The scratch is laid out as the inner loops
 // have it.
 #![tactic(auto)]
+
 ghost use Rattle.std.specs.Prelude.{◌≡◌, true, List, ℕ, ◌+◌, ◌≤◌, ◌<◌, length};
 ghost use Rattle.doubles.specs.Steps.{zeros};
 ghost use Rattle.designs.specs.Given.{given};

@@ -1,6 +1,7 @@
 // Kernels for the benchmark: the product and the update of one column of a dense design, each with the tests that cost no more than the column.
 // They look at sizes and at no number, so they are for callers that have checked their design; the exports have no such call.
 #![tactic(auto)]
+
 ghost use Rattle.std.specs.Prelude.{◌≡◌, length};
 ghost use Rattle.doubles.specs.Answer.{verdict_of};
 ghost use Rattle.plain_numbers.specs.Codes.{number_in, place_in};

@@ -1,6 +1,7 @@
 // Inner functions that pass over all columns of a design. The caller has tested the design. A dense design is passed row by row, with a
 // running sum for each feature: each column still adds its samples upward, so the bits are those of the column by itself.
 #![tactic(auto)]
+
 ghost use Rattle.std.specs.Prelude.{◌≡◌, ◌+◌, ◌*◌, ◌<◌, ◌≤◌, length};
 ghost use Rattle.doubles.specs.Num as num;
 ghost use Rattle.doubles.specs.Steps.{tab, largest_from};

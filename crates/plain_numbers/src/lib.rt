@@ -1,5 +1,6 @@
 // Settings, penalties, refusals, reports, positions, doubles and the size of a working set as plain numbers, for the calls from other languages.
 #![tactic(auto)]
+
 ghost use Rattle.std.specs.Prelude.{◌≡◌};
 ghost use Rattle.doubles.specs.Answer.{number_of, verdict_of};
 ghost use Rattle.designs.specs.Design as def;

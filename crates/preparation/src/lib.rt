@@ -1,6 +1,7 @@
 // The preparation: the Lipschitz constants and X'y of a tile, computed once for any number of solves. It tests its input first and refuses with
 // document 01's number and place; refused with 1 to 6, it changes nothing, and with 7 it leaves the 2p numbers at zero.
 #![tactic(auto)]
+
 ghost use Rattle.std.specs.Prelude.{◌≡◌, ◌+◌, ◌≤◌, length, take};
 ghost use Rattle.doubles.specs.Num.{pick};
 ghost use Rattle.doubles.specs.Steps.{zeros};

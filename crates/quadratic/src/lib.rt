@@ -1,6 +1,7 @@
 // What the public calls of the quadratic datafit do behind their tests, each on the first places of the lent buffers. The caller has tested
 // the design and the room.
 #![tactic(auto)]
+
 ghost use Rattle.std.specs.Prelude.{◌≡◌, ℕ, ◌+◌, ◌<◌, ◌≤◌, length, get_or, take};
 ghost use Rattle.doubles.specs.Num as num;
 ghost use Rattle.doubles.specs.Buffer.{put};

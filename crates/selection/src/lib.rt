@@ -2,6 +2,7 @@
 // the index places themselves: its root is the last of those kept, so a feature that does not stand ahead of the root costs one comparison. Inner
 // functions, for the working set.
 #![tactic(auto)]
+
 ghost use Rattle.std.specs.Prelude.{◌≡◌, true, List, ◌+◌, ◌-◌, ◌<◌, ◌≤◌, Float, length, get_or, take, set};
 ghost use Rattle.std.specs.Float.Ieee.{eq};
 ghost use Rattle.doubles.specs.Num as num;

@@ -1,6 +1,7 @@
 // Inner functions of the solver over a design and prepared numbers already checked: violations, and the visits of one epoch. `prepared` holds
 // p constants, then X'y.
 #![tactic(auto)]
+
 ghost use Rattle.std.specs.Prelude.{◌≡◌, ℕ, ◌+◌, ◌<◌, ◌≤◌, length, get_or};
 ghost use Rattle.designs.specs.Design as design;
 ghost use Rattle.designs.specs.Inner.Sound.{Whole};

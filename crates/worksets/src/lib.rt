@@ -1,5 +1,6 @@
 // The working set: the features that the epochs of one iteration visit.
 #![tactic(auto)]
+
 ghost use Rattle.std.specs.Prelude.{◌≡◌};
 ghost use Rattle.doubles.specs.Answer.{refused as refused'};
 ghost use Rattle.worksets.specs.Call as calls;

@@ -1,0 +1,14 @@
+-- `is_check_due`: never at epoch 0. Assumes nothing.
+use Rattle.doubles.specs.Num.{◌and◌}
+use Rattle.definition.specs.Run.{checks}
+use borrow.Author.Tests.{lt-ltb}
+use Rattle.doubles.proofs.Laws.Choice.{positive}
+use Rattle.decisions.proofs.is_check_due.Goals as goal
+
+pub returns-then-e-eq0 : goal.returns-then-e-eq0
+unfolding checks ◌and◌
+returns-then-e-eq0 c = rw c.if-e-eq0.true
+
+pub returns : goal.returns
+unfolding checks ◌and◌
+returns c = rw (lt-ltb 0 _ (positive _ c.if-e-eq0.false))

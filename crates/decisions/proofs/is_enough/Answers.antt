@@ -1,0 +1,8 @@
+-- `is_enough`: with all features chosen against the tolerance, else against 0.3 of the outer violation. Assumes nothing.
+use Rattle.decisions.proofs.is_enough.Goals as goal
+
+pub returns-then-everything : goal.returns-then-everything
+returns-then-everything c = rw c.if-everything.true
+
+pub returns : goal.returns
+returns c = rw c.if-everything.false

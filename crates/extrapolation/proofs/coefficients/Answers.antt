@@ -1,0 +1,25 @@
+-- `coefficients`: the invariant is the quotients written so far, and behind them zeros. Assumes nothing.
+use mathlib.Core.Path.{◌≡◌, refl}
+use Prim.Native.Nat.{◌≤◌, ◌-◌}
+use lib.ListN.{length, drop}
+use native.Mathlib.Omega.{arith}
+use Rattle.doubles.specs.Steps.{tab}
+use Rattle.doubles.proofs.Laws.Steps.{tab-none, tab-more}
+use Rattle.definition.specs.Extrapolation.{coefficients}
+use Rattle.history.proofs.Laws.System.{filled}
+use mathlib.Core.List.{◌++◌}
+use Rattle.doubles.specs.Num.{◌⊘◌, at}
+use borrow.Author.Rules.{rules}
+use Rattle.extrapolation.proofs.coefficients.Goals as goal
+
+pub loop-k-init : goal.loop-k-init
+loop-k-init c = (search rules, refl, tab-none _ _)
+
+pub loop-k-preserved : goal.loop-k-preserved
+loop-k-preserved c = (search rules, c.loop-k.invariant.1, tab-more _ _ _ _ c.loop-k.invariant.2 _ (omega arith) refl)
+
+pub returns : goal.returns
+unfolding coefficients
+returns c =
+    rw (← c.total-s.ensures)
+    (filled _ _ _ _ _ _ c.requires c.loop-k.invariant.0 c.loop-k-test.false c.loop-k.invariant.2)

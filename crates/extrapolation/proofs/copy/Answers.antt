@@ -1,0 +1,20 @@
+-- `copy`: the invariant is what is copied so far, and behind it what was there; a table of a list's own places is the list. Assumes nothing.
+use mathlib.Core.Path.{◌≡◌, refl, ◌∙◌}
+use Prim.Native.Nat.{◌≤◌, ◌-◌}
+use lib.ListN.{length, drop}
+use Rattle.doubles.specs.Num.{at}
+use Rattle.doubles.specs.Steps.{tab}
+use Rattle.doubles.proofs.Laws.Steps.{tab-none, tab-more, tab-all}
+use mathlib.Core.List.{◌++◌}
+use Rattle.doubles.proofs.Laws.Parts.{tab_own}
+use borrow.Author.Rules.{rules}
+use Rattle.extrapolation.proofs.copy.Goals as goal
+
+pub loop-i-init : goal.loop-i-init
+loop-i-init c = (search rules, search rules, tab-none _ _)
+
+pub loop-i-preserved : goal.loop-i-preserved
+loop-i-preserved c = (search rules, search rules, tab-more _ _ _ _ c.loop-i.invariant.2 _ (search rules) refl)
+
+pub returns : goal.returns
+returns c = tab-all _ _ _ _ c.loop-i.invariant.2 _ c.requires (search rules) (search rules) ∙ tab_own _

@@ -1,0 +1,16 @@
+-- `entry`: the invariant is the sum over the places passed. Assumes nothing.
+use mathlib.Core.Path.{◌≡◌}
+use Prim.Native.Nat.{◌≤◌, ◌-◌}
+use Rattle.doubles.specs.Num.{◌⊗◌}
+use Rattle.doubles.specs.Steps.{sum}
+use Rattle.doubles.proofs.Laws.Steps.{steps-none, steps-turn, steps_all}
+use Rattle.definition.specs.Extrapolation.{U, entry}
+use borrow.Author.Rules.{rules}
+use Rattle.history.proofs.entry.Given as goal
+
+abbrev pub invariant-loop-place : goal.invariant-loop-place
+invariant-loop-place l = (l.place ≤ l.size) × (l.s ≡ sum (λ j. U l.shape.p l.kept l.k j ⊗ U l.shape.p l.kept l.l j) l.place)
+
+abbrev pub decreases-loop-place : goal.decreases-loop-place
+decreases-loop-place l = l.size - l.place
+

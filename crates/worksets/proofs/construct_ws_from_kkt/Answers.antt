@@ -1,0 +1,112 @@
+-- `construct_ws_from_kkt`: the tests in their order, then the set, lent the first p places. Assumes nothing.
+use mathlib.Core.Path.{◌≡◌, refl, sym, ap, ◌∙◌}
+use mathlib.Core.Bool.{Bool, true}
+use mathlib.Core.List.{List}
+use Prim.Native.Nat.{ℕ, ◌≤◌}
+use lib.Ieee.{Float}
+use lib.Dec.{leb, eqb}
+use lib.ListN.{length}
+use lib.Seq.{length-take-le}
+use borrow.Author.Tests.{leb-true, eqb-true, le-leb, lt-leb}
+use Rattle.doubles.specs.Num.{◌and◌}
+use Rattle.doubles.specs.Buffer.{put}
+use Rattle.doubles.specs.Answer.{Outcome, refused, answered}
+use Rattle.doubles.proofs.Laws.Choice.{and_both}
+use Rattle.doubles.proofs.Laws.Buffer.{put_front}
+use Rattle.doubles.specs.Answer.{refused, none}
+use Rattle.definition.specs.WorkingSet.{size, working_set, padded}
+use Rattle.worksets.specs.Call.{ws_fault, ws_call, ws_left}
+use Rattle.worksets.proofs.Laws.Numbers.{numbers_of}
+use borrow.Author.Rules.{rules}
+use Rattle.worksets.proofs.construct_ws_from_kkt.Goals as goal
+
+-- what the first two tests say once they passed
+agreed : (p q : ℕ) (r : Bool) → r ≡ (leb 1 p and leb p 8192 and eqb q p) → r ≡ true → (p ≤ 8192) × (q ≡ p)
+agreed p q r e h =
+    let a = and_both (leb 1 p) (leb p 8192 and eqb q p) (sym e ∙ h) in
+    let b = and_both (leb p 8192) (eqb q p) a.1 in
+    (leb-true p 8192 b.0, eqb-true q p b.1)
+
+within : (start p : ℕ) (r : Bool) → r ≡ (leb 1 start and leb start p) → r ≡ true → start ≤ p
+within start p r e h = leb-true start p (and_both (leb 1 start) (leb start p) (sym e ∙ h)).1
+module _ (v w : List Float) (start : ℕ) (indices : List ℕ) where
+  refused_as : (r : Outcome ℕ) (number place : ℕ) → r ≡ refused number place → ws_fault v w start indices ≡ refused number place
+      → (r ≡ ws_call v w start indices) × (indices ≡ ws_left v w start indices)
+  unfolding ws_call ws_left
+  refused_as r number place e f = rw f (e, refl)
+
+  answered-as : (n : ℕ) (l : List ℕ) → n ≡ size start w → l ≡ put indices 0 (padded (working_set start v w) (length w)) → ws_fault v w start indices ≡ none
+      → (answered n ≡ ws_call v w start indices) × (l ≡ ws_left v w start indices)
+  unfolding ws_call ws_left
+  answered-as n l e h f = rw f (ap answered e, h)
+
+pub returns-else-lengths_agree : goal.returns-else-lengths_agree
+unfolding ws_fault
+returns-else-lengths_agree c = refused_as _ _ _ _ _ 1 0 c.refused.ensures (rw (← c.lengths_agree.ensures, c.if-lengths_agree.false))
+
+pub returns-else-start_in_range : goal.returns-else-start_in_range
+unfolding ws_fault
+returns-else-start_in_range c =
+    refused_as _ _ _ _ _ 2 2 c.refused-else-start_in_range.ensures
+    (rw (← c.lengths_agree.ensures, c.if-lengths_agree.true, ← c.start_in_range.ensures, c.if-start_in_range.false))
+
+pub returns-else-p-indices : goal.returns-else-p-indices
+unfolding ws_fault
+returns-else-p-indices c =
+    refused_as _ _ _ _ _ 3 0 c.refused-else-p-indices.ensures
+    (rw (
+      ← c.lengths_agree.ensures,
+      c.if-lengths_agree.true,
+      ← c.start_in_range.ensures,
+      c.if-start_in_range.true,
+      lt-leb _ _ c.if-p-indices.false,
+    ))
+
+pub first_bad_violation-requires : goal.first_bad_violation-requires
+first_bad_violation-requires c =
+    (agreed _ _ _ c.lengths_agree.ensures c.if-lengths_agree.true).1
+
+pub returns-in-At : goal.returns-in-At
+unfolding ws_fault
+returns-in-At c =
+    refused_as _ _ _ _ _ 8 _ c.refused-in-At.ensures
+    (rw (
+      ← c.lengths_agree.ensures,
+      c.if-lengths_agree.true,
+      ← c.start_in_range.ensures,
+      c.if-start_in_range.true,
+      le-leb _ _ c.if-p-indices.true,
+      ← c.first_bad_violation.ensures,
+      c.in-At.is,
+    ))
+
+pub slice_bounds-construct_ws-end-2 : goal.slice_bounds-construct_ws-end-2
+slice_bounds-construct_ws-end-2 c = sym (length-take-le _ _ c.if-p-indices.true)
+
+pub construct_ws-requires : goal.construct_ws-requires
+construct_ws-requires c =
+    let sizes = agreed _ _ _ c.lengths_agree.ensures c.if-lengths_agree.true in (
+      sizes.1,
+      sizes.0,
+      within _ _ _ c.start_in_range.ensures c.if-start_in_range.true,
+      length-take-le _ _ c.if-p-indices.true,
+      numbers_of _ _ (sym c.first_bad_violation.ensures ∙ c.in_default.is),
+    )
+
+pub returns : goal.returns
+unfolding ws_fault
+returns c =
+    let built = c.construct_ws in
+    let w = c.args.w.now in
+    let lent = c.args.indices.now in
+    let placed = put_front lent (length w) built.new.indices _ c.if-p-indices.true built.auto.indices built.ensures.1 in
+    answered-as c.args.kkt.now w c.args.start lent _ _ built.ensures.0 placed
+    (rw (
+      ← c.lengths_agree.ensures,
+      c.if-lengths_agree.true,
+      ← c.start_in_range.ensures,
+      c.if-start_in_range.true,
+      le-leb _ _ c.if-p-indices.true,
+      ← c.first_bad_violation.ensures,
+      c.in_default.is,
+    ))
