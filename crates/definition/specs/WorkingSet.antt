@@ -25,7 +25,7 @@ nonzeros w = length (support w (length w))
 
 -- "Size = max(start, min(2·nonzero weights, p))"
 unfoldable pub size : ℕ → List Float → ℕ
-size start w = greater start (smaller (2 * nonzeros w) (length w))
+size start w = greater start (smaller (2 * length (support w (length w))) (length w))
 
 -- j among features that stand by falling violation: behind those with an equal one, which are lower, and before the first with a smaller one
 unfoldable pub insert : List Float → ℕ → List ℕ → List ℕ

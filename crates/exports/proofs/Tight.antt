@@ -4,7 +4,7 @@ use mathlib.Core.Path.{◌≡◌}
 use mathlib.Core.List.{List}
 use Prim.Native.Nat.{ℕ}
 use lib.Ieee.{Float}
-use denote.Ref.{Bor}
+use denote.MutBor.{MutBor}
 use Rattle.doubles.proofs.Tight.{coincide}
 use Rattle.definition.specs.Call.{lent}
 use Rattle.plain_numbers.specs.Codes.{Reply, reply, report, WalkReply, told, usable}
@@ -25,8 +25,8 @@ use Rattle.exports.proofs.koyramutey_prox.Reads as prox_reads
 -- the lent parameters that both end with: the buffers, then the report's numbers, then the place
 abbrev Ends : Type 0
 Ends =
-    Bor (List Float) × (Bor (List Float) × (Bor (List ℕ) × (Bor (List Float)
-    × (Bor ℕ × (Bor Float × (Bor ℕ × (Bor ℕ × (Bor ℕ × (Bor ℕ × Unit {0})))))))))
+    MutBor (List Float) × (MutBor (List Float) × (MutBor (List ℕ) × (MutBor (List Float)
+    × (MutBor ℕ × (MutBor Float × (MutBor ℕ × (MutBor ℕ × (MutBor ℕ × (MutBor ℕ × Unit {0})))))))))
 
 -- what a call left, with its number
 abbrev replied : ℕ → Ends → Reply
@@ -47,11 +47,11 @@ solve-csc_tight κs a r r' s s' p q = coincide p q
 -- the lent parameters that both end with, behind the prepared numbers and the settings: the buffers, then the report's numbers, the position and the place
 abbrev WalkEnds : Type 0
 WalkEnds =
-    Bor (List Float) × (Bor (List Float) × (Bor (List ℕ) × (Bor (List Float)
-    × (Bor ℕ × (Bor Float × (Bor ℕ × (Bor ℕ × (Bor ℕ × (Bor ℕ × (Bor ℕ × Unit {0}))))))))))
+    MutBor (List Float) × (MutBor (List Float) × (MutBor (List ℕ) × (MutBor (List Float)
+    × (MutBor ℕ × (MutBor Float × (MutBor ℕ × (MutBor ℕ × (MutBor ℕ × (MutBor ℕ × (MutBor ℕ × Unit {0}))))))))))
 
 -- what a call left, with its number; the prepared numbers are m
-abbrev found : ℕ → Bor (List Float) → WalkEnds → WalkReply
+abbrev found : ℕ → MutBor (List Float) → WalkEnds → WalkReply
 found number m t =
     let u = t.1.1.1.1 in
     let numbers = report u.0.now u.1.0.now u.1.1.0.now u.1.1.1.0.now u.1.1.1.1.0.now in

@@ -1,6 +1,7 @@
 // Calls for programs in other languages: numbers, slices and references to numbers. A slice passes as a pointer and then a length. Soft
 // threshold and prox answer a double; each other call answers the refusal's number, 0 where there is none, and leaves the refusal's place in `place`.
 #![tactic(auto)]
+
 ghost use Rattle.std.specs.Prelude.{[], ◌≡◌};
 ghost use Rattle.doubles.specs.Num.{#0};
 ghost use Rattle.penalties.specs.Penalty as pen;

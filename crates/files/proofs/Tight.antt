@@ -4,7 +4,6 @@ use mathlib.Core.Path.{◌≡◌, ap}
 use Rattle.doubles.proofs.Tight.{coincide, same_refusal}
 use Rattle.files.specs.Call.{Places, parsed_of}
 use Rattle.files.specs.declared.Parsed.{Parsed}
-use Rattle.files.specs.declared.Parsed.TheVariants as Parsed
 use Rattle.files.proofs.read.Reads as read_reads
 
 -- a reading loses nothing

@@ -9,7 +9,6 @@ use Rattle.definition.specs.declared.Settings.{Settings}
 use Rattle.files.specs.Problem.{Read, read_all, header_shape, header_settings}
 use Rattle.files.specs.declared.Sizes.{Sizes}
 use Rattle.files.specs.declared.Parsed.{Parsed}
-use Rattle.files.specs.declared.Parsed.TheVariants as Parsed
 
 pub record Problem : Type 0 where
   pub given : Given

@@ -4,7 +4,6 @@ use mathlib.Core.Path.{◌≡◌, ap}
 use Rattle.doubles.proofs.Tight.{coincide, same_refusal}
 use Rattle.listings.specs.Call.{written_of}
 use Rattle.listings.specs.declared.Written.{Written}
-use Rattle.listings.specs.declared.Written.TheVariants as Written
 use Rattle.listings.proofs.write_listing.Reads as write_listing_reads
 
 -- a reading loses nothing

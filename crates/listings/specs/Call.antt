@@ -7,7 +7,6 @@ use Rattle.doubles.specs.Answer.{Fault, none, unless, after, left}
 use Rattle.definition.specs.declared.Report.{Report}
 use Rattle.listings.specs.Listing.{listed}
 use Rattle.listings.specs.declared.Written.{Written}
-use Rattle.listings.specs.declared.Written.TheVariants as Written
 
 -- what the answer stands for: a refusal, or how many bytes
 abbrev pub written_of : Written → Outcome ℕ

@@ -1,5 +1,6 @@
 // The listing of a fit, or the line of its refusal, as bytes in a lent buffer.
 #![tactic(auto)]
+
 ghost use Rattle.std.specs.Prelude.{◌≡◌, length};
 ghost use Rattle.doubles.specs.Answer.{refused as refused'};
 ghost use Rattle.definition.specs.Call.{fit_of};

@@ -1,3 +1,2 @@
--- What belongs to no one function: what all thin functions share, and how tight the promises are.
-pub mod Laws
+-- What belongs to no one function: how tight the promises are.
 pub mod Tight

@@ -1,6 +1,7 @@
 // A sparse design as one view: its three slices travel together. Each call over a view is thin: it takes the view apart, and `inner` does the work
 // on the slices, as the public call of the crate below for a CSC design.
 #![tactic(auto)]
+
 ghost use Rattle.std.specs.Prelude.{[], ◌≡◌};
 ghost use Rattle.doubles.specs.Answer.{number_of, verdict_of};
 ghost use Rattle.designs.specs.Design.{csc_shape};

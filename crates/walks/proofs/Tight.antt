@@ -4,7 +4,7 @@ use mathlib.Core.Path.{◌≡◌, ap}
 use mathlib.Core.List.{List}
 use Prim.Native.Nat.{ℕ}
 use lib.Ieee.{Float}
-use denote.Ref.{Bor}
+use denote.MutBor.{MutBor}
 use Rattle.doubles.proofs.Tight.{coincide, same_refusal}
 use Rattle.definition.specs.Call.{Lent, lent}
 use Rattle.definition.specs.Walk.{walk_of}
@@ -23,7 +23,7 @@ one_walk (Walk.Found x) (Walk.Found y) e = cc
 -- ---- the lent parameters, from the prepared numbers on; the settings and `most` stand among them
 abbrev pub Lents : Type 0
 Lents =
-    Bor (List Float) × (Settings × (ℕ × (Bor (List Float) × (Bor (List Float) × (Bor (List ℕ) × (Bor (List Float) × Unit {0}))))))
+    MutBor (List Float) × (Settings × (ℕ × (MutBor (List Float) × (MutBor (List Float) × (MutBor (List ℕ) × (MutBor (List Float) × Unit {0}))))))
 
 -- all five hold the same
 abbrev pub SameLents : Lents → Lents → Type 0

@@ -2,6 +2,7 @@
 // the documents' number and place; refused with 1 to 6, it changes no lent buffer. It prepares once, and each fit begins from zero weights. At its end the
 // prepared numbers are zero, and so is all that is lent besides where no alpha is usable, which is refused with 11.
 #![tactic(auto)]
+
 ghost use Rattle.std.specs.Prelude.{◌≡◌, true, ◌+◌, ◌<◌, length};
 ghost use Rattle.doubles.specs.Num as num;
 ghost use Rattle.doubles.specs.Steps.{tab, zeros};

@@ -1,11 +1,10 @@
 -- `advance`: each count grows with its own tag. Assumes nothing.
 use native.Mathlib.Omega.{arith}
 use Rattle.files.specs.Inner.Places.{advanced}
-use borrow.Author.Rules.{rules}
 use Rattle.files.proofs.advance.Goals as goal
 
 pub overflow_cast-tag : goal.overflow_cast-tag
-overflow_cast-tag c = omega (arith, c.shared_slice_known-2-1.given c.args.c.at)
+overflow_cast-tag c = omega (arith, c.type_inv.file c.args.c.at)
 
 pub returns : goal.returns
 unfolding advanced

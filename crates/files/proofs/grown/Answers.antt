@@ -1,5 +1,4 @@
 -- `grown`: by one test. Assumes nothing.
-use borrow.Author.Rules.{rules}
 use Rattle.files.proofs.grown.Goals as goal
 
 pub returns-then-gains : goal.returns-then-gains

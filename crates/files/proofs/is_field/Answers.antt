@@ -3,16 +3,14 @@ use native.Mathlib.Omega.{arith}
 use borrow.Author.Tests.{eq-eqb, ne_eqb, le-leb, lt-leb}
 use Rattle.doubles.specs.Num.{◌and◌}
 use Rattle.files.specs.Problem.{good_field}
-use Rattle.files.proofs.Laws.Fields.{head_inside, size-positive}
-use Rattle.files.specs.Bytes.{byte}
-use borrow.Author.Rules.{rules}
+use Rattle.files.proofs.Laws.Fields.{head_inside}
 use Rattle.files.proofs.is_field.Goals as goal
 
 pub bounds-file-at : goal.bounds-file-at
 bounds-file-at c = let h = head_inside _ _ c.requires.0 in omega arith
 
 pub overflow_cast-tag : goal.overflow_cast-tag
-overflow_cast-tag c = omega (arith, c.shared_slice_known-2-1.given c.args.c.at)
+overflow_cast-tag c = omega (arith, c.type_inv.file c.args.c.at)
 
 pub overflow_add-at : goal.overflow_add-at
 overflow_add-at c = let h = head_inside _ _ c.requires.0 in omega arith
@@ -36,7 +34,7 @@ returns-then-many-size_of-ne0 c =
       c.if-is_known.true,
       le-leb _ _ c.if-tag-c.false,
       ← c.u16_at-many.ensures.0,
-      ← c.type_size.ensures,
+      ← c.size_of.ensures,
       ne_eqb _ _ c.if-many-size_of-ne0.true,
     )
 
@@ -48,7 +46,7 @@ returns c =
       c.if-is_known.true,
       le-leb _ _ c.if-tag-c.false,
       ← c.u16_at-many.ensures.0,
-      ← c.type_size.ensures,
+      ← c.size_of.ensures,
       eq-eqb _ _ c.if-many-size_of-ne0.false,
     )
     c.is_stored.ensures

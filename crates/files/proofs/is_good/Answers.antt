@@ -5,7 +5,6 @@ use native.Mathlib.Omega.{arith}
 use borrow.Author.Tests.{eq-eqb, ne_eqb}
 use Rattle.doubles.specs.Num.{◌and◌}
 use Rattle.files.specs.Problem.{whole, good_at}
-use borrow.Author.Rules.{rules}
 use Rattle.files.proofs.is_good.Goals as goal
 use Rattle.files.proofs.is_good.Goals.{Then-is_whole}
 

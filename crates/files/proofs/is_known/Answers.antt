@@ -2,7 +2,6 @@
 use borrow.Author.Tests.{eq-eqb, ne_eqb, le-leb, lt-leb}
 use Rattle.doubles.specs.Num.{◌and◌}
 use Rattle.files.specs.Problem.{known_tag}
-use borrow.Author.Rules.{rules}
 use Rattle.files.proofs.is_known.Goals as goal
 
 pub returns-then-tag-lt2 : goal.returns-then-tag-lt2

@@ -1,6 +1,5 @@
 -- `is_stored`: only values are counted. Assumes nothing.
 use borrow.Author.Tests.{eq-eqb, ne_eqb}
-use borrow.Author.Rules.{rules}
 use Rattle.files.proofs.is_stored.Goals as goal
 
 pub returns-then-tag-eq3 : goal.returns-then-tag-eq3

@@ -2,7 +2,6 @@
 use borrow.Author.Tests.{le-leb, lt-leb}
 use Rattle.doubles.specs.Num.{◌and◌}
 use Rattle.files.specs.Problem.{whole}
-use borrow.Author.Rules.{rules}
 use Rattle.files.proofs.is_whole.Goals as goal
 
 pub returns-then-file-at : goal.returns-then-file-at

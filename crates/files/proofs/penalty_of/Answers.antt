@@ -1,7 +1,6 @@
 -- `penalty_of`: by the code. Assumes nothing.
 use borrow.Author.Tests.{eq-eqb, ne_eqb}
 use Rattle.files.specs.Problem.{header_penalty}
-use borrow.Author.Rules.{rules}
 use Rattle.files.proofs.penalty_of.Goals as goal
 
 pub returns-then-file-eq0 : goal.returns-then-file-eq0

@@ -2,10 +2,9 @@
 use mathlib.Core.Path.{◌≡◌, refl}
 use mathlib.Core.Bool.{true}
 use native.Mathlib.Omega.{arith}
-use Prim.Native.Nat.{◌-◌}
 use lib.ListN.{length}
 use Rattle.files.specs.Problem.{whole}
-use Rattle.files.proofs.Laws.Walk.{Walked, walked_none, counts-few, walked-lengths, here_whole, space_now}
+use Rattle.files.proofs.Laws.Walk.{walked_none, counts-few, walked-lengths, here_whole, space_now}
 use Rattle.files.proofs.Laws.Walk.{next-within, next_less, walked_more, walked_all}
 use Rattle.files.proofs.Laws.Fields.{head_inside}
 use Rattle.files.proofs.read_fields.Goals as goal

@@ -1,11 +1,10 @@
 -- `settings_of`: each number from its place. Assumes nothing.
 use native.Mathlib.Omega.{arith}
 use Rattle.files.specs.Problem.{header_settings}
-use borrow.Author.Rules.{rules}
 use Rattle.files.proofs.settings_of.Goals as goal
 
 pub overflow_cast-result : goal.overflow_cast-result
-overflow_cast-result c = omega (arith, c.shared_slice_known-3-1.given 14)
+overflow_cast-result c = omega (arith, c.type_inv.file 14)
 
 pub returns : goal.returns
 unfolding header_settings

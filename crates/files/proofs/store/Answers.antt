@@ -6,15 +6,10 @@ use lib.ListN.{length}
 use borrow.Author.Tests.{ne_eqb}
 use Rattle.files.specs.Inner.Places.{Space}
 use Rattle.files.proofs.Laws.Fields.{head_inside, body_inside}
-use borrow.Author.Rules.{rules}
 use Rattle.files.proofs.store.Goals as goal
-use Rattle.files.proofs.store.Goals.{After-shared_slice_known-2-1, After-u16_at-many}
+use Rattle.files.proofs.store.Goals.{After-u16_at-many}
 
--- the field's head lies in the file
-head : (c : After-shared_slice_known-2-1) → c.args.c.at + 3 ≤ length c.args.file.now
-head c = head_inside _ _ c.requires.0
-
--- its body does
+-- the field's body lies in the file
 body : (c : After-u16_at-many) → c.args.c.at + 3 + c.u16_at-many.result ≤ length c.args.file.now
 body c = rw (← c.u16_at-many.ensures.0) at (body_inside _ _ c.requires.0)
 
@@ -27,16 +22,16 @@ pub returns-else-keep : goal.returns-else-keep
 returns-else-keep c = rw c.if-keep.false (refl, refl, refl, refl)
 
 pub bounds-file-at : goal.bounds-file-at
-bounds-file-at c = let h = head (goal.at.bounds-file-at c).After-shared_slice_known-2-1 in omega arith
+bounds-file-at c = let h = head_inside _ _ c.requires.0 in omega arith
 
 pub overflow_add-at : goal.overflow_add-at
-overflow_add-at c = let h = head (goal.at.overflow_add-at c).After-shared_slice_known-2-1 in omega arith
+overflow_add-at c = let h = head_inside _ _ c.requires.0 in omega arith
 
 pub u16_at-many-requires : goal.u16_at-many-requires
-u16_at-many-requires c = let h = head (goal.at.u16_at-many-requires c).After-shared_slice_known-2-1 in (omega arith, c.requires.1)
+u16_at-many-requires c = let h = head_inside _ _ c.requires.0 in (omega arith, c.requires.1)
 
 pub overflow_add-body : goal.overflow_add-body
-overflow_add-body c = let h = head (goal.at.overflow_add-body c).After-shared_slice_known-2-1 in omega arith
+overflow_add-body c = let h = head_inside _ _ c.requires.0 in omega arith
 
 pub put_doubles-requires : goal.put_doubles-requires
 put_doubles-requires c =

@@ -1,7 +1,6 @@
 -- `f64_at`: the double of eight bytes. Assumes nothing.
 use mathlib.Core.Path.{◌∙◌}
 use Rattle.files.specs.Bytes.{f64}
-use borrow.Author.Rules.{rules}
 use Rattle.files.proofs.inner.f64_at.Goals as goal
 
 pub returns : goal.returns

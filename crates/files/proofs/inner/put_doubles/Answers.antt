@@ -1,13 +1,7 @@
 -- `put_doubles`: the invariant is the elements so far, put where they go. Assumes nothing.
-use mathlib.Core.Path.{◌≡◌}
-use Prim.Native.Nat.{◌+◌, ◌*◌, ◌-◌, ◌≤◌}
-use lib.ListN.{length}
 use lib.Ieee.{nan}
-use Rattle.doubles.specs.Steps.{tab}
-use Rattle.doubles.specs.Buffer.{put}
 use Rattle.doubles.proofs.Laws.Buffer.{put-none, put-more, put_all}
 use borrow.Author.Rules.{rules}
-use Rattle.files.specs.Bytes.{f64}
 use Rattle.files.proofs.inner.put_doubles.Goals as goal
 
 pub loop-i-init : goal.loop-i-init

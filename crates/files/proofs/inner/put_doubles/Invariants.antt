@@ -2,11 +2,8 @@
 use mathlib.Core.Path.{◌≡◌}
 use Prim.Native.Nat.{◌+◌, ◌*◌, ◌-◌, ◌≤◌}
 use lib.ListN.{length}
-use lib.Ieee.{nan}
 use Rattle.doubles.specs.Steps.{tab}
 use Rattle.doubles.specs.Buffer.{put}
-use Rattle.doubles.proofs.Laws.Buffer.{put-none, put-more, put_all}
-use borrow.Author.Rules.{rules}
 use Rattle.files.specs.Bytes.{f64}
 use Rattle.files.proofs.inner.put_doubles.Given as goal
 
@@ -15,4 +12,3 @@ invariant-loop-i l = (l.i ≤ l.many) × (length l.buf ≡ length l.initial.buf)
 
 abbrev pub decreases-loop-i : goal.decreases-loop-i
 decreases-loop-i l = l.many - l.i
-

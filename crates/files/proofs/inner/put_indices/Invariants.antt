@@ -4,8 +4,6 @@ use Prim.Native.Nat.{◌+◌, ◌*◌, ◌-◌, ◌≤◌}
 use lib.ListN.{length}
 use Rattle.doubles.specs.Steps.{tab}
 use Rattle.doubles.specs.Buffer.{put}
-use Rattle.doubles.proofs.Laws.Buffer.{put-none, put-more, put_all}
-use borrow.Author.Rules.{rules}
 use Rattle.files.specs.Bytes.{u32}
 use Rattle.files.proofs.inner.put_indices.Given as goal
 
@@ -14,4 +12,3 @@ invariant-loop-i l = (l.i ≤ l.many) × (length l.buf ≡ length l.initial.buf)
 
 abbrev pub decreases-loop-i : goal.decreases-loop-i
 decreases-loop-i l = l.many - l.i
-

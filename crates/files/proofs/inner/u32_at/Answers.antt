@@ -1,7 +1,6 @@
 -- `u32_at`: two u16 numbers. Assumes nothing.
 use native.Mathlib.Omega.{arith}
 use Rattle.files.specs.Bytes.{u32}
-use borrow.Author.Rules.{rules}
 use Rattle.files.proofs.inner.u32_at.Goals as goal
 
 pub returns : goal.returns

@@ -1,6 +1,5 @@
 -- `u64_at`: two u32 numbers. Assumes nothing.
 use Rattle.files.specs.Bytes.{u64}
-use borrow.Author.Rules.{rules}
 use Rattle.files.proofs.inner.u64_at.Goals as goal
 
 pub returns : goal.returns
