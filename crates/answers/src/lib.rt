@@ -1,5 +1,6 @@
 // What the program prints for a problem file: the file is read, its problem is prepared and solved, and the listing is written.
 #![tactic(auto)]
+
 ghost use Rattle.std.specs.Prelude.{◌≡◌, length};
 ghost use Rattle.designs.specs.Given.{given};
 ghost use Rattle.definition.specs.Call as call;

@@ -1,6 +1,7 @@
 // Reads the lists of an oracle's answers. A line that begins with `#` is a comment; any other is a record, hex words with spaces between
 // them. A double is a word, its bits.
 #![tactic(auto)]
+
 ghost use Rattle.std.specs.Prelude.{◌≡◌, ◌≤◌, true, length};
 ghost use Rattle.list_reader.specs.Count.{count_of};
 
@@ -30,7 +31,7 @@ pub fn same(a: f64, b: f64) -> bool
 
 // A line as far as it was read: the word begun and how many digits it has, how many words were stored, and whether the line is a comment or
 // has a fault, after either of which only its end counts.
-#[derive(Drop)]
+#[derive(Clone, Copy, Drop)]
 pub struct Reader {
     pub word: u64,
     pub digits: u32,

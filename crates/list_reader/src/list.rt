@@ -4,43 +4,58 @@ ghost use Rattle.list_reader.specs.ProgressWithin.{ProgressWithin};
 
 use crate::progress::{Compared, Progress};
 use crate::{Fed, Reader, Words, feed, progress, start};
+use std::fmt::Display;
+use std::fs::File;
+use std::io::Read;
+use std::rt::Files;
 
-// What `io::buffer` gives.
+// The buffer that a list is read into.
 pub type Bytes = [u8; 4096];
 
 // Opens the list and reads on to its first record. A list that does not open is over, and standard error says why.
-pub fn open(path: &[u8], bytes: &mut Bytes, words: &mut Words) -> Progress
+pub fn open<R: Files<File = File> + Print + Eprint>(
+    rt: &R,
+    path: &str,
+    bytes: &mut Bytes,
+    words: &mut Words,
+) -> Progress
     ensures { ProgressWithin result }
 {
-    let fd = os::open_read(path);
-    let p = progress::begin(fd);
-    if fd < 0 {
-        os::fail(path);
-        return over(p);
+    match File::open(rt, path) {
+        Err(error) => {
+            fail(rt, path, error);
+            over(rt, progress::begin(None))
+        }
+        Ok(file) => read_on(rt, progress::begin(Some(file)), path, bytes, words),
     }
-    read_on(p, path, bytes, words)
+}
+
+// Says on standard error what failed, and why.
+fn fail(rt: &impl Eprint, path: &str, why: impl Display + Drop) {
+    let _ = eprintln!(rt; "{path}: {why}");
 }
 
 // Counts the record that was found, and reads on to the one after it.
 pub fn next(
+    rt: &(impl Print + Eprint),
     p: Progress,
     compared: Compared,
-    path: &[u8],
+    path: &str,
     bytes: &mut Bytes,
     words: &mut Words,
 ) -> Progress
     requires { ProgressWithin p × (0 < p.left) }
     ensures { ProgressWithin result × (result.left < p.left) }
 {
-    read_on(progress::count(p, compared), path, bytes, words)
+    read_on(rt, progress::count(rt, p, compared), path, bytes, words)
 }
 
 // The list is over: there is no more to read.
-fn over(mut p: Progress) -> Progress
+fn over(rt: &impl Print, mut p: Progress) -> Progress
     requires { ProgressWithin p }
     ensures { ProgressWithin result × (result.left ≡ 0) }
 {
-    progress::end(p.fd, p.counts);
+    progress::end(rt, p.file.take(), p.counts);
     p.left = 0;
     p
 }
@@ -81,7 +96,7 @@ fn line_ended(mut p: Progress, found: usize) -> Progress
     p
 }
 
-fn take_byte(p: Progress, byte: u8, words: &mut Words) -> Progress
+fn take_byte(rt: &impl Print, p: Progress, byte: u8, words: &mut Words) -> Progress
     requires { ProgressWithin p }
     ensures { ProgressWithin result × (result.left ≡ p.left) }
 {
@@ -90,31 +105,51 @@ fn take_byte(p: Progress, byte: u8, words: &mut Words) -> Progress
     match fed {
         Fed::More(reader) => go_on(p, reader, byte),
         Fed::Record(n) => line_ended(p, n),
-        Fed::Bad => progress::count(line_ended(p, 0), Compared::Bad),
+        Fed::Bad => progress::count(rt, line_ended(p, 0), Compared::Bad),
     }
 }
 
 // Reads once. A read that fails counts as a bad record, so that what was not read is not taken for right; at the end of the list its last
 // line ends too, and where that is a record, the next read ends the list.
-fn fill(p: Progress, path: &[u8], bytes: &mut Bytes, words: &mut Words) -> Progress
+fn fill(
+    rt: &(impl Print + Eprint),
+    mut p: Progress,
+    path: &str,
+    bytes: &mut Bytes,
+    words: &mut Words,
+) -> Progress
     requires { ProgressWithin p }
     ensures { ProgressWithin result × (result.left ≤ p.left) }
 {
-    let fd = p.fd;
-    let got = libc::read(fd, bytes);
-    if got < 0 {
-        os::fail(path);
-        return over(progress::count(p, Compared::Bad));
+    let Some(file) = &mut p.file else {
+        fail(rt, path, "not open");
+        return over(rt, progress::count(rt, p, Compared::Bad));
+    };
+    match file.read(bytes) {
+        Err(error) => {
+            fail(rt, path, error);
+            over(rt, progress::count(rt, p, Compared::Bad))
+        }
+        Ok(0) => {
+            let last = take_byte(rt, p, b'\n', words);
+            if last.found == 0 {
+                over(rt, last)
+            } else {
+                last
+            }
+        }
+        Ok(got) => filled(p, got),
     }
-    if got == 0 {
-        let last = take_byte(p, b'\n', words);
-        return if last.found == 0 { over(last) } else { last };
-    }
-    filled(p, io::count(got, bytes))
 }
 
 // One byte, or one read where the buffer is used up.
-fn turn(mut p: Progress, path: &[u8], bytes: &mut Bytes, words: &mut Words) -> Progress
+fn turn(
+    rt: &(impl Print + Eprint),
+    mut p: Progress,
+    path: &str,
+    bytes: &mut Bytes,
+    words: &mut Words,
+) -> Progress
     requires { ProgressWithin p × (0 < p.left) }
     ensures { ProgressWithin result × (result.left < p.left) }
 {
@@ -122,20 +157,26 @@ fn turn(mut p: Progress, path: &[u8], bytes: &mut Bytes, words: &mut Words) -> P
     let at = p.at;
     if at < p.end {
         p.at = at + 1;
-        take_byte(p, bytes[at], words)
+        take_byte(rt, p, bytes[at], words)
     } else {
-        fill(p, path, bytes, words)
+        fill(rt, p, path, bytes, words)
     }
 }
 
 // Reads on until a record is whole, which is then found, or the list is over. A bad line is counted on the way.
-fn read_on(from: Progress, path: &[u8], bytes: &mut Bytes, words: &mut Words) -> Progress
+fn read_on(
+    rt: &(impl Print + Eprint),
+    from: Progress,
+    path: &str,
+    bytes: &mut Bytes,
+    words: &mut Words,
+) -> Progress
     requires { ProgressWithin from × (0 < from.left) }
     ensures { ProgressWithin result × (result.left < from.left) }
 {
-    let mut p = turn(from, path, bytes, words);
+    let mut p = turn(rt, from, path, bytes, words);
     while p.found == 0 && p.left > 0 {
-        let later = turn(p, path, bytes, words);
+        let later = turn(rt, p, path, bytes, words);
         p = later;
     }
     p

@@ -13,7 +13,7 @@ pub type Doubles = [f64; 1024];
 pub type Indices = [u32; 1024];
 
 // An array of a record: where it begins, how many words it has, and where the next part begins.
-#[derive(Drop)]
+#[derive(Clone, Copy, Drop)]
 pub struct Part {
     pub at: usize,
     pub count: usize,

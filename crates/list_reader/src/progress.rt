@@ -3,10 +3,10 @@ ghost use Rattle.std.specs.Prelude.{◌≡◌, ◌<◌};
 ghost use Rattle.list_reader.specs.ProgressWithin.{ProgressWithin};
 
 use crate::{Reader, start};
-use libc::STDOUT_FILENO;
+use std::fs::File;
 
 // What became of a record.
-#[derive(Drop)]
+#[derive(Clone, Copy, Drop)]
 pub enum Compared {
     Same,
     Differs,
@@ -23,7 +23,7 @@ pub fn judge(is_same: bool) -> Compared {
 }
 
 // The records so far, and those of them that differ or are bad.
-#[derive(Drop)]
+#[derive(Clone, Copy, Drop)]
 pub struct Tally {
     pub cases: u64,
     pub differ: u64,
@@ -32,8 +32,8 @@ pub struct Tally {
 // How far a list was read.
 #[derive(Drop)]
 pub struct Progress {
-    // The list's file, negative where it did not open.
-    pub fd: i32,
+    // The list's file, none where it did not open or is closed.
+    pub file: Option<File>,
     // How many turns may follow, 0 where the list is over. Nothing says that a file ends, so they are counted down from a number that no run
     // uses up.
     pub left: u64,
@@ -49,11 +49,11 @@ pub struct Progress {
 }
 
 // Before the first byte.
-pub fn begin(fd: i32) -> Progress
+pub fn begin(file: Option<File>) -> Progress
     ensures { ProgressWithin result × (0 < result.left) }
 {
     Progress {
-        fd: fd,
+        file: file,
         left: u64::MAX,
         at: 0,
         end: 0,
@@ -72,16 +72,15 @@ pub fn one_more(n: u64) -> u64 {
     std::num::wrapping_add_u64(n, 1)
 }
 
-fn print_line(line: u64, what: &[u8]) {
-    io::write_all(STDOUT_FILENO, b"line ");
-    io::print_decimal(STDOUT_FILENO, line);
-    io::write_all(STDOUT_FILENO, what);
+// A print that fails is let go, here and below.
+fn print_line(rt: &impl Print, line: u64, what: &str) {
+    let _ = print!(rt; "line {line}{what}");
 }
 
 // Names a record that differs or is bad, by its line. Only the first twenty are named.
-fn name_wrong(p: Progress, what: &[u8]) {
+fn name_wrong(rt: &impl Print, p: &Progress, what: &str) {
     if p.counts.differ < 20 {
-        print_line(p.line, what);
+        print_line(rt, p.line, what);
     }
 }
 
@@ -102,36 +101,35 @@ fn add_record(mut p: Progress, wrong: u64) -> Progress
 }
 
 // A line ended that was to be a record.
-pub fn count(p: Progress, compared: Compared) -> Progress
+pub fn count(rt: &impl Print, p: Progress, compared: Compared) -> Progress
     requires { ProgressWithin p }
     ensures { ProgressWithin result × (result.left ≡ p.left) }
 {
     match compared {
         Compared::Same => add_record(p, 0),
         Compared::Differs => {
-            name_wrong(p, b" differs\n");
+            name_wrong(rt, &p, " differs\n");
             add_record(p, 1)
         }
         Compared::Bad => {
-            name_wrong(p, b" bad\n");
+            name_wrong(rt, &p, " bad\n");
             add_record(p, 1)
         }
     }
 }
 
 // The last line: how many records there were, and how many of them differ or are bad.
-fn print_counts(c: Tally) {
-    io::print_decimal(STDOUT_FILENO, c.cases);
-    io::write_all(STDOUT_FILENO, b" cases, ");
-    io::print_decimal(STDOUT_FILENO, c.differ);
-    io::write_all(STDOUT_FILENO, b" differ\n");
+fn print_counts(rt: &impl Print, c: Tally) {
+    let cases = c.cases;
+    let differ = c.differ;
+    let _ = println!(rt; "{cases} cases, {differ} differ");
 }
 
 // The list is over: it is closed and the counts are printed. Of a list that did not open there is nothing to say.
-pub fn end(fd: i32, counts: Tally) {
-    if fd < 0 {
+pub fn end(rt: &impl Print, file: Option<File>, counts: Tally) {
+    if file.is_none() {
         return;
     }
-    libc::close(fd);
-    print_counts(counts);
+    drop(file);
+    print_counts(rt, counts);
 }

@@ -7,7 +7,7 @@ use list_reader::Words;
 use list_reader::parts::{Part, part_at};
 
 // All arrays of a record, in their order. One that the code does not have is empty.
-#[derive(Drop)]
+#[derive(Clone, Copy, Drop)]
 pub struct Arrays {
     pub starts: Part,
     pub rows: Part,

@@ -1,5 +1,6 @@
 // Reads a problem file on standard input and prints the listing of its fit, or the line of its refusal.
 #![tactic(auto)]
+
 use libc::{STDIN_FILENO, STDOUT_FILENO};
 use listings::Written;
 

@@ -14,4 +14,3 @@ invariant-loop-i l = (l.i ≤ length l.xs) × (true ≡ all (λ k. finite (at l.
 
 abbrev pub decreases-loop-i : goal.decreases-loop-i
 decreases-loop-i l = length l.xs - l.i
-

@@ -14,4 +14,3 @@ invariant-loop-j l = (l.j ≤ length l.initial.buf) × (l.buf ≡ tab (λ k. #0)
 
 abbrev pub decreases-loop-j : goal.decreases-loop-j
 decreases-loop-j l = length l.initial.buf - l.j
-

@@ -17,4 +17,3 @@ invariant-loop-k l =
 
 abbrev pub decreases-loop-k : goal.decreases-loop-k
 decreases-loop-k l = l.many - l.k
-

@@ -18,4 +18,3 @@ invariant-loop-k l = (l.k ≤ l.many) × Within l.start l.many (length l.initial
 
 abbrev pub decreases-loop-k : goal.decreases-loop-k
 decreases-loop-k l = l.many - l.k
-

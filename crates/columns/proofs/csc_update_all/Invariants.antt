@@ -16,4 +16,3 @@ invariant-loop-k l = (l.k ≤ length l.ws) × (length l.fit ≡ l.shape.n)
 
 abbrev pub decreases-loop-k : goal.decreases-loop-k
 decreases-loop-k l = length l.ws - l.k
-

@@ -16,4 +16,3 @@ invariant-loop-i l = (l.i ≤ l.n) × (l.j < l.p) × (l.n * l.p ≤ length l.val
 
 abbrev pub decreases-loop-i : goal.decreases-loop-i
 decreases-loop-i l = l.n - l.i
-

@@ -18,4 +18,3 @@ invariant-loop-i l = (l.i ≤ length l.initial.fit) × (length l.fit ≡ length 
 
 abbrev pub decreases-loop-i : goal.decreases-loop-i
 decreases-loop-i l = length l.initial.fit - l.i
-

@@ -5,13 +5,12 @@ use borrow.Author.Rules.{rules}
 use Rattle.columns.proofs.extrapolated_fit.Goals as goal
 
 pub dense_extrapolated_fit-requires : goal.dense_extrapolated_fit-requires
-dense_extrapolated_fit-requires c =
-    (
-      λ k h.
-          rw c.requires.2 (c.requires.0 k h),
-      room-sized c.requires.3 c.requires.2 _
-          (held_dense _ _ _ _ _ _ c.in-Dense.is c.requires.1),
-    )
+dense_extrapolated_fit-requires c = (
+  λ k h.
+      rw c.requires.2 (c.requires.0 k h),
+  room-sized c.requires.3 c.requires.2 _
+      (held_dense _ _ _ _ _ _ c.in-Dense.is c.requires.1),
+)
 
 pub csc_extrapolated_fit-requires : goal.csc_extrapolated_fit-requires
 csc_extrapolated_fit-requires c =

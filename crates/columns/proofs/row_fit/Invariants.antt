@@ -15,4 +15,3 @@ invariant-loop-k l = (l.k ≤ length l.ws) × (l.s ≡ total (λ i. at l.w (get_
 
 abbrev pub decreases-loop-k : goal.decreases-loop-k
 decreases-loop-k l = length l.ws - l.k
-

@@ -19,8 +19,7 @@ returns-in-Refused c =
 
 pub returns-in-Fine : goal.returns-in-Fine
 unfolding update_fault updated
-returns-in-Fine c =
-    (
-      pass _ c.admit.ensures c.in-Fine.is,
-      pass_left _ c.admit.ensures _ _ _ c.in-Fine.is c.column_update.ensures,
-    )
+returns-in-Fine c = (
+  pass _ c.admit.ensures c.in-Fine.is,
+  pass_left _ c.admit.ensures _ _ _ c.in-Fine.is c.column_update.ensures,
+)

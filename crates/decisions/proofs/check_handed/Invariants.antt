@@ -17,4 +17,3 @@ invariant-loop-j l = (l.j ≤ l.p) × (Nowhere ≡ first_of (λ k. mark (not (ac
 
 abbrev pub decreases-loop-j : goal.decreases-loop-j
 decreases-loop-j l = l.p - l.j
-

@@ -13,4 +13,3 @@ invariant-loop-j l = (l.j ≤ l.p) × (true ≡ all (usable_at l.p l.prepared) l
 
 abbrev pub decreases-loop-j : goal.decreases-loop-j
 decreases-loop-j l = l.p - l.j
-

@@ -16,4 +16,3 @@ invariant-loop-k l = (l.k ≤ length l.alphas) × (true ≡ all (good_at l.alpha
 
 abbrev pub decreases-loop-k : goal.decreases-loop-k
 decreases-loop-k l = length l.alphas - l.k
-

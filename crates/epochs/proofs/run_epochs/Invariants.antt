@@ -16,4 +16,3 @@ invariant-loop-e l =
 
 abbrev pub decreases-loop-e : goal.decreases-loop-e
 decreases-loop-e l = l.settings.epochs - l.e
-

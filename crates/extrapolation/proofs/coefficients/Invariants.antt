@@ -17,4 +17,3 @@ invariant-loop-k l = (l.k ≤ l.depth) × (length l.initial.c ≡ 10) × (l.c �
 
 abbrev pub decreases-loop-k : goal.decreases-loop-k
 decreases-loop-k l = l.depth - l.k
-

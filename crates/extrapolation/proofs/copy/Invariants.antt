@@ -15,4 +15,3 @@ invariant-loop-i l = (l.i ≤ length l.initial.to) × (length l.to ≡ length l.
 
 abbrev pub decreases-loop-i : goal.decreases-loop-i
 decreases-loop-i l = length l.initial.to - l.i
-

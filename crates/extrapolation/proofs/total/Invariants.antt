@@ -12,4 +12,3 @@ invariant-loop-k l = (l.k ≤ l.depth) × (l.s ≡ sum (at l.z) l.k)
 
 abbrev pub decreases-loop-k : goal.decreases-loop-k
 decreases-loop-k l = l.depth - l.k
-

@@ -16,4 +16,3 @@ invariant-loop-i l = (l.i ≤ length l.ws) × (length l.w ≡ l.shape.p)
 
 abbrev pub decreases-loop-i : goal.decreases-loop-i
 decreases-loop-i l = length l.ws - l.i
-

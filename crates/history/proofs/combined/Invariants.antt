@@ -13,4 +13,3 @@ invariant-loop-k l = (l.k ≤ l.shape.depth) × (l.s ≡ sum (λ j. at l.c j ⊗
 
 abbrev pub decreases-loop-k : goal.decreases-loop-k
 decreases-loop-k l = l.shape.depth - l.k
-

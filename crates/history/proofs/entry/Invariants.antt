@@ -13,4 +13,3 @@ invariant-loop-place l = (l.place ≤ l.size) × (l.s ≡ sum (λ j. U l.shape.p
 
 abbrev pub decreases-loop-place : goal.decreases-loop-place
 decreases-loop-place l = l.size - l.place
-

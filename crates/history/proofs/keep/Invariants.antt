@@ -16,4 +16,3 @@ invariant-loop-i l = (l.i ≤ length l.ws) × (length l.kept ≡ length l.initia
 
 abbrev pub decreases-loop-i : goal.decreases-loop-i
 decreases-loop-i l = length l.ws - l.i
-

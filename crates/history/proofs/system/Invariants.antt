@@ -16,4 +16,3 @@ invariant-loop-k l = (l.k ≤ l.shape.depth) × (length l.initial.m ≡ 10) × (
 
 abbrev pub decreases-loop-k : goal.decreases-loop-k
 decreases-loop-k l = l.shape.depth - l.k
-

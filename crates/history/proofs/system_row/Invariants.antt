@@ -16,4 +16,3 @@ invariant-loop-l l = (l.l ≤ l.shape.depth) × (length l.initial.row ≡ 11) ×
 
 abbrev pub decreases-loop-l : goal.decreases-loop-l
 decreases-loop-l l = l.shape.depth - l.l
-

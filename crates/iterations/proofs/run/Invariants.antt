@@ -19,4 +19,3 @@ invariant-loop-t l =
 
 abbrev pub decreases-loop-t : goal.decreases-loop-t
 decreases-loop-t l = l.settings.iterations - l.t
-

@@ -16,4 +16,3 @@ invariant-loop-j l =
 
 abbrev pub decreases-loop-j : goal.decreases-loop-j
 decreases-loop-j l = length l.initial.buf - l.j
-

@@ -16,4 +16,3 @@ invariant-loop-i l = (l.i ≤ l.n) × (length l.buf ≡ length l.initial.buf) ×
 
 abbrev pub decreases-loop-i : goal.decreases-loop-i
 decreases-loop-i l = l.n - l.i
-

@@ -17,4 +17,3 @@ invariant-loop-j l = (l.j ≤ length l.initial.buf) × (length l.buf ≡ length 
 
 abbrev pub decreases-loop-j : goal.decreases-loop-j
 decreases-loop-j l = length l.initial.buf - l.j
-

@@ -13,4 +13,3 @@ invariant-loop-j l = (l.j ≤ length l.xs) × (l.v ≡ largest_from #0 (λ k. ab
 
 abbrev pub decreases-loop-j : goal.decreases-loop-j
 decreases-loop-j l = length l.xs - l.j
-

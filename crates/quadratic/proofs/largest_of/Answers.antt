@@ -13,9 +13,8 @@ alpha_max-requires c =
     (c.requires.0, length-take-le _ _ c.requires.1, c.requires.2, c.requires.3)
 
 pub returns : goal.returns
-returns c =
-    (
-      c.alpha_max.ensures.0,
-      put_front c.args.xty.now c.args.shape.p c.alpha_max.new.xty _ c.requires.1
-          c.alpha_max.auto.xty c.alpha_max.ensures.1,
-    )
+returns c = (
+  c.alpha_max.ensures.0,
+  put_front c.args.xty.now c.args.shape.p c.alpha_max.new.xty _ c.requires.1
+      c.alpha_max.auto.xty c.alpha_max.ensures.1,
+)

@@ -14,4 +14,3 @@ invariant-loop-i l = (l.i ≤ length l.y) × (l.s ≡ total (λ k. (at l.y k ⊖
 
 abbrev pub decreases-loop-i : goal.decreases-loop-i
 decreases-loop-i l = length l.y - l.i
-

@@ -9,4 +9,3 @@ invariant-loop-k l = HeapAt (ahead l.kkt) (Number l.kkt) l.initial.kept l.kept l
 
 abbrev pub decreases-loop-k : goal.decreases-loop-k
 decreases-loop-k l = l.k
-

@@ -11,4 +11,3 @@ invariant-loop-c l = FirstAt l.w (length l.initial.kept) l.kept l.c l.j
 
 abbrev pub decreases-loop-c : goal.decreases-loop-c
 decreases-loop-c l = length l.w - l.j
-

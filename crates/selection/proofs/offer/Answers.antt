@@ -18,19 +18,17 @@ sink-requires c =
 pub returns-then-ahead : goal.returns-then-ahead
 unfolding offered ◌and◌
 returns-then-ahead c =
-    let sunk = c.sink in
-    (
+    let sunk = c.sink in (
       sunk.ensures.0,
       rw (c.if-w.true, ← c.ahead.ensures, c.if-ahead.true) sunk.ensures.1,
     )
 
 pub returns-else-ahead : goal.returns-else-ahead
 unfolding offered ◌and◌
-returns-else-ahead c =
-    (
-      c.requires.5,
-      rw (c.if-w.true, ← c.ahead.ensures, c.if-ahead.false) (same_self c.args.kept.now),
-    )
+returns-else-ahead c = (
+  c.requires.5,
+  rw (c.if-w.true, ← c.ahead.ensures, c.if-ahead.false) (same_self c.args.kept.now),
+)
 
 pub returns-else-w : goal.returns-else-w
 unfolding offered ◌and◌

@@ -10,4 +10,3 @@ invariant-loop-j l = RestAt l.kkt l.w l.from l.initial.kept l.kept l.j
 
 abbrev pub decreases-loop-j : goal.decreases-loop-j
 decreases-loop-j l = l.j
-

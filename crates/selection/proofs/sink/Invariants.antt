@@ -11,4 +11,3 @@ invariant-loop-k l = SinkAt (ahead l.kkt) (Number l.kkt) l.at l.x l.initial.kept
 
 abbrev pub decreases-loop-k : goal.decreases-loop-k
 decreases-loop-k l = length l.kept - l.k
-

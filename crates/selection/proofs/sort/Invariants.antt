@@ -11,4 +11,3 @@ invariant-loop-c l = SortAt (ahead l.kkt) (Number l.kkt) l.initial.kept l.kept l
 
 abbrev pub decreases-loop-c : goal.decreases-loop-c
 decreases-loop-c l = l.c
-

@@ -17,4 +17,3 @@ invariant-loop-i l = (l.i ≤ length l.ws) × (length l.w ≡ l.shape.p) × (len
 
 abbrev pub decreases-loop-i : goal.decreases-loop-i
 decreases-loop-i l = length l.ws - l.i
-

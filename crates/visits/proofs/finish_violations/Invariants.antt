@@ -20,4 +20,3 @@ invariant-loop-j l = (l.j ≤ length l.initial.gradients) × (length l.gradients
 
 abbrev pub decreases-loop-j : goal.decreases-loop-j
 decreases-loop-j l = length l.initial.gradients - l.j
-

@@ -15,4 +15,3 @@ invariant-loop-i l = (l.i ≤ length l.ws)
 
 abbrev pub decreases-loop-i : goal.decreases-loop-i
 decreases-loop-i l = length l.ws - l.i
-

@@ -29,6 +29,7 @@ agreed p q r e h =
 
 within : (start p : ℕ) (r : Bool) → r ≡ (leb 1 start and leb start p) → r ≡ true → start ≤ p
 within start p r e h = leb-true start p (and_both (leb 1 start) (leb start p) (sym e ∙ h)).1
+
 module _ (v w : List Float) (start : ℕ) (indices : List ℕ) where
   refused_as : (r : Outcome ℕ) (number place : ℕ) → r ≡ refused number place → ws_fault v w start indices ≡ refused number place
       → (r ≡ ws_call v w start indices) × (indices ≡ ws_left v w start indices)

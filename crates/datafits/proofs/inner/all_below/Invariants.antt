@@ -17,4 +17,3 @@ invariant-loop-k l = (l.k ≤ length l.ws) × (true ≡ all (λ i. ltb (get_or l
 
 abbrev pub decreases-loop-k : goal.decreases-loop-k
 decreases-loop-k l = length l.ws - l.k
-

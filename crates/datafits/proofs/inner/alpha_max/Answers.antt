@@ -15,16 +15,14 @@ largest_of-requires c =
 
 pub returns-in-Refused : goal.returns-in-Refused
 unfolding alpha_max_fault alpha_max_call alpha_max_left
-returns-in-Refused c =
-    (
-      stop-after _ c.admit.ensures _ _ c.in-Refused.is,
-      stop-left _ c.admit.ensures _ _ _ c.in-Refused.is,
-    )
+returns-in-Refused c = (
+  stop-after _ c.admit.ensures _ _ c.in-Refused.is,
+  stop-left _ c.admit.ensures _ _ _ c.in-Refused.is,
+)
 
 pub returns-in-Fine : goal.returns-in-Fine
 unfolding alpha_max_fault alpha_max_call alpha_max_left
-returns-in-Fine c =
-    (
-      pass_after _ c.admit.ensures _ _ c.in-Fine.is c.largest_of.ensures.0,
-      pass_left _ c.admit.ensures _ _ _ c.in-Fine.is c.largest_of.ensures.1,
-    )
+returns-in-Fine c = (
+  pass_after _ c.admit.ensures _ _ c.in-Fine.is c.largest_of.ensures.0,
+  pass_left _ c.admit.ensures _ _ _ c.in-Fine.is c.largest_of.ensures.1,
+)

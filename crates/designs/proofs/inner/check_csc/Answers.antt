@@ -10,11 +10,10 @@ unfolding csc_fault
 returns-in-At c = c.refused.ensures ∙ rw (← c.first_bad_start.ensures, c.in-At.is)
 
 pub first_bad_row-requires : goal.first_bad_row-requires
-first_bad_row-requires c =
-    (
-      c.requires.1,
-      rising-rows _ _ _ _ _ c.requires.1 c.requires.2 c.first_bad_start.ensures c.in_default.is,
-    )
+first_bad_row-requires c = (
+  c.requires.1,
+  rising-rows _ _ _ _ _ c.requires.1 c.requires.2 c.first_bad_start.ensures c.in_default.is,
+)
 
 pub returns-in-At-first_bad_row : goal.returns-in-At-first_bad_row
 unfolding csc_fault

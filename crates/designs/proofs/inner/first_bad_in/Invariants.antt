@@ -15,4 +15,3 @@ invariant-loop-k l = (l.k ≤ l.many) × (Nowhere ≡ first_of (λ i. mark (bad_
 
 abbrev pub decreases-loop-k : goal.decreases-loop-k
 decreases-loop-k l = l.many - l.k
-

@@ -14,4 +14,3 @@ invariant-loop-j l = (l.j ≤ l.p) × (Nowhere ≡ first_of (bad_column l.n l.st
 
 abbrev pub decreases-loop-j : goal.decreases-loop-j
 decreases-loop-j l = l.p - l.j
-

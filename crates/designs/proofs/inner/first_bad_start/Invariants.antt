@@ -15,4 +15,3 @@ invariant-loop-i l = (l.i ≤ length l.starts) × (Nowhere ≡ first_of (λ k. m
 
 abbrev pub decreases-loop-i : goal.decreases-loop-i
 decreases-loop-i l = length l.starts - l.i
-

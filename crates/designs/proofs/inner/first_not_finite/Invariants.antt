@@ -17,4 +17,3 @@ invariant-loop-k l = (l.k ≤ length l.xs) × (Nowhere ≡ first_of (λ i. mark 
 
 abbrev pub decreases-loop-k : goal.decreases-loop-k
 decreases-loop-k l = length l.xs - l.k
-

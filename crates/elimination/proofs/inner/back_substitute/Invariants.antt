@@ -13,4 +13,3 @@ invariant-loop-i l = (1 ≤ l.i) × (l.i ≤ l.size) × (l.a ≡ downward (clear
 
 abbrev pub decreases-loop-i : goal.decreases-loop-i
 decreases-loop-i l = l.i
-

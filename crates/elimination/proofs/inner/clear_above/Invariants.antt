@@ -13,4 +13,3 @@ invariant-loop-t l = (l.t ≤ l.i) × (l.a ≡ downward (cleared l.i 0 l.size) l
 
 abbrev pub decreases-loop-t : goal.decreases-loop-t
 decreases-loop-t l = l.t
-

@@ -13,4 +13,3 @@ invariant-loop-t l = (l.i + 1 ≤ l.t) × (l.t ≤ l.size) × (l.a ≡ upward (c
 
 abbrev pub decreases-loop-t : goal.decreases-loop-t
 decreases-loop-t l = l.size - l.t
-

@@ -13,4 +13,3 @@ invariant-loop-i l = (l.i ≤ l.last) × (l.a ≡ steps (cleared_below l.size) l
 
 abbrev pub decreases-loop-i : goal.decreases-loop-i
 decreases-loop-i l = l.last - l.i
-

@@ -15,4 +15,3 @@ invariant-loop-i l = (l.i ≤ l.size) × (true ≡ all (λ k. not (eq (cell l.a 
 
 abbrev pub decreases-loop-i : goal.decreases-loop-i
 decreases-loop-i l = l.size - l.i
-

@@ -14,4 +14,3 @@ invariant-loop-i l = (l.i ≤ l.size) × (l.z ≡ steps (λ k x. set x k (cell l
 
 abbrev pub decreases-loop-i : goal.decreases-loop-i
 decreases-loop-i l = l.size - l.i
-

@@ -15,4 +15,3 @@ invariant-loop-j l = (l.j ≤ length l.w) × (l.sum ≡ total (λ k. mcp_of l.al
 
 abbrev pub decreases-loop-j : goal.decreases-loop-j
 decreases-loop-j l = length l.w - l.j
-

@@ -13,4 +13,3 @@ invariant-loop-k l = (l.k ≤ length l.initial.indices) × (l.indices ≡ tab {A
 
 abbrev pub decreases-loop-k : goal.decreases-loop-k
 decreases-loop-k l = length l.initial.indices - l.k
-

@@ -20,4 +20,3 @@ invariant-loop-j l = (length l.kkt ≡ length l.w) × (l.j ≤ length l.w) × (N
 
 abbrev pub decreases-loop-j : goal.decreases-loop-j
 decreases-loop-j l = length l.w - l.j
-

@@ -28,9 +28,9 @@ loop-j-preserved c =
     let j = c.loop-j.j in
     let w = c.args.w.now in
     let counted = counted_by {P = is_zero w j ≡ true} {Q = is_zero w j ≡ false} (is_zero w j) c.loop-j.count c.if-w-j.count (elim c.if-w-j.branch [
-          then-w-j b ↦ inl (b.if-w-j.true, b.count-is)
-        | else-w-j b ↦ inr (b.if-w-j.false, b.count-is)
-        ]) (λ t. t) (λ t. t)
+      | then-w-j b ↦ inl (b.if-w-j.true, b.count-is)
+      | else-w-j b ↦ inr (b.if-w-j.false, b.count-is)
+    ]) (λ t. t) (λ t. t)
     in
     (search rules, support-count _ _ _ _ so_far.1 counted)
 

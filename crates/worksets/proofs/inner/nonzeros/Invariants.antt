@@ -14,4 +14,3 @@ invariant-loop-j l = (l.j ≤ length l.w) × (l.count ≡ length (support l.w l.
 
 abbrev pub decreases-loop-j : goal.decreases-loop-j
 decreases-loop-j l = length l.w - l.j
-

@@ -14,8 +14,8 @@ use Rattle.worksets.proofs.inner.size.Goals.{Joined-p-twice, then-p-twice, else-
 chosen : (c : Joined-p-twice) → c.if-p-twice.grown ≡ smaller (2 * c.args.nonzero) c.args.p
 chosen c =
     smaller_of {P = c.args.p < 2 * c.args.nonzero} {Q = 2 * c.args.nonzero ≤ c.args.p} _ _ _ (elim c.if-p-twice.branch [
-      then-p-twice w ↦ inl (w.if-p-twice.true, w.grown-is)
-    | else-p-twice w ↦ inr (w.if-p-twice.false, w.grown-is)
+      | then-p-twice w ↦ inl (w.if-p-twice.true, w.grown-is)
+      | else-p-twice w ↦ inr (w.if-p-twice.false, w.grown-is)
     ]) (λ t. t) (λ t. t)
 
 pub returns-then-start-grown : goal.returns-then-start-grown

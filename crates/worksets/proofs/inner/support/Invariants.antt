@@ -15,4 +15,3 @@ invariant-loop-j l =
 
 abbrev pub decreases-loop-j : goal.decreases-loop-j
 decreases-loop-j l = length l.w - l.j
-

@@ -12,8 +12,7 @@ use Rattle.doubles.proofs.Laws.Order.{eq-zero, ne_self}
 use Rattle.doubles.proofs.Laws.Exact.{round_self}
 use Rattle.doubles.proofs.Laws.Turn.{zero₂}
 use Rattle.doubles.proofs.Laws.Zero.{zero_is}
-use Rattle.list_reader.proofs.same.Statement.{statement}
-use Rattle.list_reader.proofs.same.Tie as tie
+use Rattle.list_reader.proofs.same.Goals as goal
 
 holds : {b : Bool} → b ≡ true → T b
 holds h = rw h tt
@@ -89,24 +88,23 @@ unfolding div eq of_bits
 alike (signed true) = refl
 alike (signed false) = refl
 
-returns : tie.Need-returns
-returns c = (λ k. none _ (sym (ne_self _) ∙ c.if1.true) ∙ sym (none _ (sym (ne_self _) ∙ k)), λ e. rw (← e) c.if1.true)
+pub returns-then-a-clause-only : goal.returns-then-a-clause-only
+returns-then-a-clause-only c k = none _ (sym (ne_self _) ∙ c.if-a.true) ∙ sym (none _ (sym (ne_self _) ∙ k))
 
-returns-2 : tie.Need-returns-2
-returns-2 c =
-    let g = c.before.before.well-formed in (
-      λ k. numbers _ _ (holds g.0.1) (holds g.1.0.1) c.if2.true (holds k),
-      λ e. rw (← e) (not-false _ (unfold ne in c.before.if1.false)),
-    )
+pub returns-then-a-2-clause-only : goal.returns-then-a-2-clause-only
+returns-then-a-2-clause-only c k =
+    let g = c.well_formed in
+    numbers _ _ (holds g.0.1) (holds g.1.0.1) c.if-a-2.true (holds k)
 
-returns-3 : tie.Need-returns-3
-returns-3 c = (λ k. absurd (false≢true k), λ e. sym c.before.if2.false ∙ ap (λ (x : Float). ne x #0) e ∙ c.if3.true)
+pub returns-then-a-2-clause-all : goal.returns-then-a-2-clause-all
+returns-then-a-2-clause-all c e = rw (← e) (not-false _ (unfold ne in c.if-a.false))
 
-returns-4 : tie.Need-returns-4
-returns-4 c =
-    let g = c.before.before.before.well-formed in
-    let x = zero-form _ (holds g.0.1) c.before.if2.false in
-    (λ k. told x (zero-form _ (holds g.1.0.1) c.if3.false) (holds k), λ e. rw (← e) (alike x))
+pub returns-else-b-clause-only : goal.returns-else-b-clause-only
+returns-else-b-clause-only c k =
+    let g = c.well_formed in
+    told (zero-form _ (holds g.0.1) c.if-a-2.false) (zero-form _ (holds g.1.0.1) c.if-b.false) (holds k)
 
-pub same_spec : {M : Type 1} → statement M
-same_spec = tie.close (tie.spec returns returns-2 returns-3 returns-4)
+pub returns-else-b-clause-all : goal.returns-else-b-clause-all
+returns-else-b-clause-all c e =
+    let x = zero-form _ (holds c.well_formed.0.1) c.if-a-2.false in
+    rw (← e) (alike x)
