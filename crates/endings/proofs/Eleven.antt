@@ -31,7 +31,8 @@ use Rattle.definition.specs.Run.{State}
 use Rattle.definition.specs.Preparation.{prepare_left}
 use Rattle.definition.specs.Call.{Lent, filled, End, untouched, given_up, done, behind, report_of, answer}
 use Rattle.definition.specs.Pair.{pair_call, pair_left}
-use Rattle.definition.specs.Walk.{with_penalty, at_alpha, good_at, list_legal, walk_early, walk_tests, wanted, usable_fit, first_usable, fit_at, position, end_at}
+use Rattle.definition.specs.Walk.{with_penalty, at_alpha, good_at, list_legal, walk_early, walk_tests, wanted, usable_fit, first_usable, fit_at, position}
+use Rattle.definition.specs.Walk.{end_at}
 use Rattle.definition.specs.Walk.{walk_end, placed, placed_at, walk_call, walk_left, walk_numbers}
 use Rattle.definition.specs.declared.Settings.{Settings}
 use Rattle.definition.specs.declared.Report.{Report}

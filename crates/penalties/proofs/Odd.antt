@@ -6,7 +6,8 @@ use mathlib.Core.Bool.{Bool, true, false, true≢false, false≢true}
 use mathlib.Core.List.{List}
 use lib.Dec.{T, ltb, leb-suc-zero}
 use lib.ListN.{length}
-use lib.Ieee.{Float, nan, inf, fin, binary64, up, down, of_bits, neg, add, sub, lt, le, mul, div, round, sum as fsum, size as fsize, units, odd as parity, is_nan}
+use lib.Ieee.{Float, nan, inf, fin, binary64, up, down, of_bits, neg, add, sub, lt, le, mul, div, round, sum as fsum, size as fsize, units, odd as parity}
+use lib.Ieee.{is_nan}
 use Rattle.doubles.specs.Num.{◌⊖◌, ◌⊗◌, ◌⊘◌, #0, #1, at, abs, signum, finite, ◌or◌}
 use Rattle.doubles.specs.Steps.{sum}
 use Rattle.doubles.specs.Sign.{plain, flip, Turned, Signs, nonzero}

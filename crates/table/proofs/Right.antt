@@ -18,7 +18,8 @@ use Rattle.definition.specs.Epoch.{gradient_of, violation_of, known, all_known, 
 use Rattle.definition.specs.Epoch.{visited, visit, visits}
 use Rattle.definition.specs.Run.{accelerated, enough, checked, checks, settled, epoch, epochs, chosen_set, iteration, turn, start, run}
 use Rattle.definition.specs.Preparation.{usable, all_usable, prepare_call, numbers_left, prepare_left}
-use Rattle.definition.specs.Call.{start_legal, depth_legal, settings_fault, scratch_room, roomy, acceptable, handed_fault, early_fault, solve_tests, solve_fault}
+use Rattle.definition.specs.Call.{start_legal, depth_legal, settings_fault, scratch_room, roomy, acceptable, handed_fault, early_fault, solve_tests}
+use Rattle.definition.specs.Call.{solve_fault}
 use Rattle.definition.specs.Call.{solved, solve_end, report_of}
 use Rattle.definition.specs.Pair.{pair_end, pair_call, pair_left}
 use Rattle.table.specs.Table.{bits, same, solution_line, dirty, dirty_numbers, diagonal, listing, set_line, right, mcp, table}

@@ -22,7 +22,8 @@ use Rattle.definition.specs.Call.{Lent, early_fault, answer, buffers, solve_call
 use Rattle.definition.specs.Pair.{pair_end, ordered_end}
 use Rattle.definition.specs.declared.Settings.{Settings}
 use Rattle.definition.specs.declared.Report.{Report}
-use Rattle.files.specs.Call.{Problem, parsed, Places, places, places_suffice, with_room, read_problem, sizes_of, sizes_answered, read_call, filled_places, read_left}
+use Rattle.files.specs.Call.{Problem, parsed, Places, places, places_suffice, with_room, read_problem, sizes_of, sizes_answered, read_call, filled_places}
+use Rattle.files.specs.Call.{read_left}
 use Rattle.files.specs.declared.Sizes.{Sizes}
 use Rattle.listings.specs.Call.{write_call, write_left}
 use Rattle.listings.proofs.Laws.Calls.{write_fits}

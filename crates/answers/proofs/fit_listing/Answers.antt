@@ -44,6 +44,7 @@ slice_bounds-write_listing-end-2 c = sym (length-take-le _ _ (fit-there (goal.at
 pub returns : goal.returns
 unfolding problem_fit problem_left
 returns c =
+    let here = goal.at.returns c in
     let told = c.write_listing.ensures in
     let fit = c.fit_problem-answer in
     let l = fit.new in
@@ -51,5 +52,6 @@ returns c =
     let a = c.args in
     let problem = problem_in a.problem a.targets.now a.values.now a.starts.now a.rows.now in
     let listed = fit-listed problem (fit_of fit.result) left_there a.out.now _ _ fit.ensures.0 fit.ensures.1 in
-    let e = listed (weights-there (goal.at.returns c).After-fit_problem-answer) c.requires.features (fit-there (goal.at.returns c).After-fit_problem-answer) c.requires.samples told.0 told.1 in
+    let e = listed (weights-there here.After-fit_problem-answer) c.requires.features (fit-there here.After-fit_problem-answer) c.requires.samples
+    told.0 told.1 in
     (e.0, e.1, told.2)

@@ -14,7 +14,8 @@ use borrow.Author.Rules.{rules}
 use Rattle.columns.proofs.dense_extrapolated_fit.Given as goal
 
 abbrev pub invariant-loop-i : goal.invariant-loop-i
-invariant-loop-i l = (l.i ≤ length l.initial.fit) × (length l.fit ≡ length l.initial.fit) × (l.fit ≡ tab (λ k. row_fit l.values l.ws l.w (k * length l.w)) l.i ++ drop l.i l.initial.fit)
+invariant-loop-i l = (l.i ≤ length l.initial.fit) × (length l.fit ≡ length l.initial.fit)
+    × (l.fit ≡ tab (λ k. row_fit l.values l.ws l.w (k * length l.w)) l.i ++ drop l.i l.initial.fit)
 
 abbrev pub decreases-loop-i : goal.decreases-loop-i
 decreases-loop-i l = length l.initial.fit - l.i

@@ -31,19 +31,24 @@ unfolding settings_fault
 returns-then-settings-gt1000 c = c.refused.ensures ∙ rw (lt-leb _ _ c.if-settings-gt1000.true)
 
 pub returns-then-settings-gt100000 : goal.returns-then-settings-gt100000
-returns-then-settings-gt100000 c = c.refused-then-settings-gt100000.ensures ∙ rw (few-iterations (goal.at.returns-then-settings-gt100000 c).Else-settings-gt1000, lt-leb _ _ c.if-settings-gt100000.true)
+returns-then-settings-gt100000 c =
+    let here = goal.at.returns-then-settings-gt100000 c in
+    c.refused-then-settings-gt100000.ensures ∙ rw (few-iterations here.Else-settings-gt1000, lt-leb _ _ c.if-settings-gt100000.true)
 
 pub returns-else-start_in_range : goal.returns-else-start_in_range
 returns-else-start_in_range c =
-    c.refused-else-start_in_range.ensures ∙ rw (few-epochs (goal.at.returns-else-start_in_range c).Else-settings-gt100000, ← c.start_in_range.ensures, c.if-start_in_range.false)
+    let here = goal.at.returns-else-start_in_range c in
+    c.refused-else-start_in_range.ensures ∙ rw (few-epochs here.Else-settings-gt100000, ← c.start_in_range.ensures, c.if-start_in_range.false)
 
 pub returns-else-depth_in_range : goal.returns-else-depth_in_range
 returns-else-depth_in_range c =
-    c.refused-else-depth_in_range.ensures ∙ rw (start-legal (goal.at.returns-else-depth_in_range c).Then-start_in_range, ← c.depth_in_range.ensures, c.if-depth_in_range.false)
+    let here = goal.at.returns-else-depth_in_range c in
+    c.refused-else-depth_in_range.ensures ∙ rw (start-legal here.Then-start_in_range, ← c.depth_in_range.ensures, c.if-depth_in_range.false)
 
 pub returns-else-alpha_in_range : goal.returns-else-alpha_in_range
 returns-else-alpha_in_range c =
-    c.refused-else-alpha_in_range.ensures ∙ rw (depth-legal (goal.at.returns-else-alpha_in_range c).Then-depth_in_range, ← c.alpha_in_range.ensures, c.if-alpha_in_range.false)
+    let here = goal.at.returns-else-alpha_in_range c in
+    c.refused-else-alpha_in_range.ensures ∙ rw (depth-legal here.Then-depth_in_range, ← c.alpha_in_range.ensures, c.if-alpha_in_range.false)
 
 pub returns : goal.returns
 returns c =

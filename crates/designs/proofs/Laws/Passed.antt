@@ -146,7 +146,8 @@ module _ (n p : ℕ) (starts rows : List ℕ) (b : bad_rows n p starts rows ≡ 
   rows-below : (m : ℕ) → Rising p m starts → (e : ℕ) → e < m → get_or rows e 0 < n
   unfolding bad_row
   rows-below m s e h =
-      at_each p m starts s (λ i. get_or rows i 0 < n) e (λ j k hj hk. leb-false n (get_or rows (get_or starts j 0 + k) 0) (or-fails _ _ (row_fine j k hj hk)).0) h
+      at_each p m starts s (λ i. get_or rows i 0 < n) e
+      (λ j k hj hk. leb-false n (get_or rows (get_or starts j 0 + k) 0) (or-fails _ _ (row_fine j k hj hk)).0) h
 
   rows_ascend : (j k : ℕ) → j < p → k < get_or starts (j + 1) 0 - get_or starts j 0 → 0 < k
       → get_or rows (get_or starts j 0 + k - 1) 0 < get_or rows (get_or starts j 0 + k) 0
@@ -214,7 +215,8 @@ module _ (n p : ℕ) (starts rows : List ℕ) (values : List Float) where
     none_first (bad_column n starts rows) p
         (λ j hj. none_first (λ k. mark (bad_row n rows (get_or starts j 0) k) (get_or starts j 0 + k)) (get_or starts (j + 1) 0 - get_or starts j 0)
         (λ k hk. rw (neither_holds _ _ (lt-leb n (get_or rows (get_or starts j 0 + k) 0) (row_below S j hj k hk))
-        (second_of_lem _ _ (λ t. lt-leb (get_or rows (get_or starts j 0 + k) 0) (get_or rows (get_or starts j 0 + k - 1) 0) (S.ascending j k hj hk (ltb-true 0 k t))))))),
+        (second_of_lem _ _ (λ t. lt-leb (get_or rows (get_or starts j 0 + k) 0) (get_or rows (get_or starts j 0 + k - 1) 0)
+        (S.ascending j k hj hk (ltb-true 0 k t))))))),
   )
 
 -- what a call may count on behind the tests

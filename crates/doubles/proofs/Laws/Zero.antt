@@ -9,7 +9,8 @@ use lib.IntN.{ℤ, pos, negsuc}
 use lib.Pow.{pow-add, pow_pos, pow-lt}
 use lib.Count.{count_trailing_zeros}
 use lib.Dec.{T, leb, ltb, eqb, ltb→lt, leb→le, nleb→lt, eqb→eq}
-use lib.Ieee.{Float, nan, inf, fin, Format, binary32, binary64, prec, emax, low, up, down, minus, size, nearest, odd, units, round, neg, sum, add, fits, of_bits}
+use lib.Ieee.{Float, nan, inf, fin, Format, binary32, binary64, prec, emax, low, up, down, minus, size, nearest, odd, units, round, neg, sum, add, fits}
+use lib.Ieee.{of_bits}
 use lib.Ieee.Fits.{round_is, up_pos, down_pos, and_l, and_r, add-fits}
 use lib.Ieee.Bits.{of_bits-fits}
 use lib.Ieee.Digits.{back}

@@ -22,4 +22,5 @@ float_from_bits-result c =
     rw (nan_bits_above binary64 _, le-ltb _ _ h) tt
 
 pub returns-then-word-gt9218868437227405312 : goal.returns-then-word-gt9218868437227405312
-returns-then-word-gt9218868437227405312 c = is-nan _ (sym (nan_bits_is binary64 _) ∙ nan_bits_above binary64 _ ∙ lt-ltb _ _ c.if-word-gt9218868437227405312.true)
+returns-then-word-gt9218868437227405312 c = is-nan _
+    (sym (nan_bits_is binary64 _) ∙ nan_bits_above binary64 _ ∙ lt-ltb _ _ c.if-word-gt9218868437227405312.true)

@@ -12,7 +12,8 @@ use Rattle.epochs.proofs.run_epochs.Given as goal
 
 abbrev pub invariant-loop-e : goal.invariant-loop-e
 invariant-loop-e l =
-    (l.e ≤ l.settings.epochs) × Reached (given l.shape l.starts l.rows l.values l.y) l.prepared l.settings l.ws l.outer l.initial.counts l.initial.w l.initial.fit l.initial.scratch l.e l.counts l.w l.fit l.scratch
+    (l.e ≤ l.settings.epochs) × Reached (given l.shape l.starts l.rows l.values l.y) l.prepared l.settings l.ws l.outer l.initial.counts l.initial.w
+    l.initial.fit l.initial.scratch l.e l.counts l.w l.fit l.scratch
 
 abbrev pub decreases-loop-e : goal.decreases-loop-e
 decreases-loop-e l = l.settings.epochs - l.e

@@ -33,7 +33,8 @@ module _ (f : List ℕ) (b : Places) where
   abbrev pub Left : Outcome Sizes → Places → Type 0
   Left o b' = (o ≡ read_call f b) × (b' ≡ read_left f b)
 
-  left-refused : (number place : ℕ) → read_problem f b ≡ refused number place → (o : Outcome Sizes) (b' : Places) → o ≡ refused number place → b' ≡ b → Left o b'
+  left-refused : (number place : ℕ) → read_problem f b ≡ refused number place → (o : Outcome Sizes) (b' : Places) → o ≡ refused number place → b' ≡ b
+      → Left o b'
   unfolding read_call read_left
   left-refused number place e o b' eo eb = rw e (eo, eb)
 

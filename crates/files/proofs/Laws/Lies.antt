@@ -113,7 +113,8 @@ doubles-long = all-long bytes_of 8 eight
 pub words_long : (ns : List ℕ) → length (flat_map bytes32 ns) ≡ 4 * length ns
 words_long = all-long bytes32 4 four
 
-pub doubles-back : (f : List ℕ) (a : ℕ) (xs : List Float) (rest : List ℕ) → Lies f a (flat_map bytes_of xs ++ rest) → AllDoubles xs → doubles f a (length xs) ≡ xs
+pub doubles-back : (f : List ℕ) (a : ℕ) (xs : List Float) (rest : List ℕ) → Lies f a (flat_map bytes_of xs ++ rest) → AllDoubles xs
+    → doubles f a (length xs) ≡ xs
 doubles-back = all_back bytes_of 8 eight f64 Double nan (λ f ys a L. f64_there L) f64-back
 
 pub words_back : (f : List ℕ) (a : ℕ) (ns : List ℕ) (rest : List ℕ) → Lies f a (flat_map bytes32 ns ++ rest) → AllWords ns → indices f a (length ns) ≡ ns

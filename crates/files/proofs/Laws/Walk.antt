@@ -15,7 +15,8 @@ use Rattle.doubles.proofs.Laws.Choice.{and_both}
 use Rattle.doubles.proofs.Laws.Steps.{length-tab}
 use Rattle.doubles.proofs.Laws.Buffer.{length-put, put-behind}
 use Rattle.files.specs.Bytes.{u32, f64, doubles, indices}
-use Rattle.files.specs.Problem.{Read, nothing_read, tag_at, length_at, whole, stored, good_header, good_field, good_at, good, joined, next_read, read_on, read_all}
+use Rattle.files.specs.Problem.{Read, nothing_read, tag_at, length_at, whole, stored, good_header, good_field, good_at, good, joined, next_read, read_on}
+use Rattle.files.specs.Problem.{read_all}
 use Rattle.files.specs.Inner.Places.{Header, Headed, Counted, grown_by, advanced, Space, Suffice, stored_in, indexed_in, kept_if}
 use Rattle.files.specs.declared.Cursor.{Cursor}
 use Rattle.files.proofs.Laws.Fields.{head_inside, body_inside, header-long}

@@ -79,14 +79,19 @@ u32_at-requires c = let h = long (goal.at.u32_at-requires c).Else-u16_at-ne48 in
 
 pub returns-then-u32_at-gt256 : goal.returns-then-u32_at-gt256
 unfolding ◌and◌
-returns-then-u32_at-gt256 c = rw (length-right _ c.if-file-ne1.false c.u16_at.ensures.0 c.if-u16_at-ne48.false, ← c.u32_at.ensures.0, lt-leb _ _ c.if-u32_at-gt256.true)
+returns-then-u32_at-gt256 c = rw
+    (length-right _ c.if-file-ne1.false c.u16_at.ensures.0 c.if-u16_at-ne48.false, ← c.u32_at.ensures.0, lt-leb _ _ c.if-u32_at-gt256.true)
 
 pub u32_at-requires-2 : goal.u32_at-requires-2
 u32_at-requires-2 c = let h = long (goal.at.u32_at-requires-2 c).Else-u16_at-ne48 in (omega arith, c.requires.1)
 
 pub returns-then-u32_at-gt32 : goal.returns-then-u32_at-gt32
 unfolding ◌and◌
-returns-then-u32_at-gt32 c = rw (few-samples _ c.if-file-ne1.false c.u16_at.ensures.0 c.if-u16_at-ne48.false c.u32_at.ensures.0 c.if-u32_at-gt256.false, ← c.u32_at-2.ensures.0, lt-leb _ _ c.if-u32_at-gt32.true)
+returns-then-u32_at-gt32 c = rw (
+  few-samples _ c.if-file-ne1.false c.u16_at.ensures.0 c.if-u16_at-ne48.false c.u32_at.ensures.0 c.if-u32_at-gt256.false,
+  ← c.u32_at-2.ensures.0,
+  lt-leb _ _ c.if-u32_at-gt32.true,
+)
 
 pub bounds-file-11 : goal.bounds-file-11
 bounds-file-11 c = let h = long (goal.at.bounds-file-11 c).Else-u16_at-ne48 in omega arith

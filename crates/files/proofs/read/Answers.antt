@@ -85,12 +85,13 @@ settings_of-settings-requires c =
 
 pub returns : goal.returns
 returns c =
+    let here = goal.at.returns c in
     let a = c.args in
     let lent = places a.targets.now a.values.now a.starts.now a.rows.now in
-    let room = c.has_room.ensures ∙ ap places_suffice (untouched (goal.at.returns c).After-read_fields-c) in
+    let room = c.has_room.ensures ∙ ap places_suffice (untouched here.After-read_fields-c) in
     let counts = c.read_fields-d.ensures.0 in
     let sizes = sizes-read _ _ counts _ _ c.shape_of-shape.ensures c.settings_of-settings.ensures in
     let short : length a.file.now ≤ 49152 = omega arith in
     let over = read_well _ lent short _ c.read_fields-c.ensures.0 _ c.has_ended.ensures c.if-has_ended.true (sym room ∙ c.if-has_room.true) in
-    let e = over _ _ sizes (stored (goal.at.returns c).After-read_fields-d) in
-    (e.0, e.1, sizes-inside _ _ counts short (headed (goal.at.returns c).Then-has_ended) _ c.shape_of-shape.ensures)
+    let e = over _ _ sizes (stored here.After-read_fields-d) in
+    (e.0, e.1, sizes-inside _ _ counts short (headed here.Then-has_ended) _ c.shape_of-shape.ensures)

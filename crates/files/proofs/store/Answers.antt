@@ -35,8 +35,9 @@ overflow_add-body c = let h = head_inside _ _ c.requires.0 in omega arith
 
 pub put_doubles-requires : goal.put_doubles-requires
 put_doubles-requires c =
-    let inside = body (goal.at.put_doubles-requires c).After-u16_at-many in
-    let room = rw (← c.u16_at-many.ensures.0) at ((space (goal.at.put_doubles-requires c).After-u16_at-many).targets c.if-tag-eq2.true) in
+    let here = goal.at.put_doubles-requires c in
+    let inside = body here.After-u16_at-many in
+    let room = rw (← c.u16_at-many.ensures.0) at ((space here.After-u16_at-many).targets c.if-tag-eq2.true) in
     (omega arith, c.requires.1, room)
 
 pub returns-then-tag-eq2 : goal.returns-then-tag-eq2
@@ -46,8 +47,9 @@ returns-then-tag-eq2 c =
 
 pub put_doubles-requires-then-tag-eq3 : goal.put_doubles-requires-then-tag-eq3
 put_doubles-requires-then-tag-eq3 c =
-    let inside = body (goal.at.put_doubles-requires-then-tag-eq3 c).After-u16_at-many in
-    let room = rw (← c.u16_at-many.ensures.0) at ((space (goal.at.put_doubles-requires-then-tag-eq3 c).After-u16_at-many).values c.if-tag-eq3.true) in
+    let here = goal.at.put_doubles-requires-then-tag-eq3 c in
+    let inside = body here.After-u16_at-many in
+    let room = rw (← c.u16_at-many.ensures.0) at ((space here.After-u16_at-many).values c.if-tag-eq3.true) in
     (omega arith, c.requires.1, room)
 
 pub returns-then-tag-eq3 : goal.returns-then-tag-eq3
@@ -57,8 +59,9 @@ returns-then-tag-eq3 c =
 
 pub put_indices-requires : goal.put_indices-requires
 put_indices-requires c =
-    let inside = body (goal.at.put_indices-requires c).After-u16_at-many in
-    let room = rw (← c.u16_at-many.ensures.0) at ((space (goal.at.put_indices-requires c).After-u16_at-many).starts c.if-tag-eq4.true) in
+    let here = goal.at.put_indices-requires c in
+    let inside = body here.After-u16_at-many in
+    let room = rw (← c.u16_at-many.ensures.0) at ((space here.After-u16_at-many).starts c.if-tag-eq4.true) in
     (omega arith, c.requires.1, room)
 
 pub returns-then-tag-eq4 : goal.returns-then-tag-eq4
@@ -68,8 +71,9 @@ returns-then-tag-eq4 c =
 
 pub put_indices-requires-then-tag-eq5 : goal.put_indices-requires-then-tag-eq5
 put_indices-requires-then-tag-eq5 c =
-    let inside = body (goal.at.put_indices-requires-then-tag-eq5 c).After-u16_at-many in
-    let room = rw (← c.u16_at-many.ensures.0) at ((space (goal.at.put_indices-requires-then-tag-eq5 c).After-u16_at-many).rows c.if-tag-eq5.true) in
+    let here = goal.at.put_indices-requires-then-tag-eq5 c in
+    let inside = body here.After-u16_at-many in
+    let room = rw (← c.u16_at-many.ensures.0) at ((space here.After-u16_at-many).rows c.if-tag-eq5.true) in
     (omega arith, c.requires.1, room)
 
 pub returns-then-tag-eq5 : goal.returns-then-tag-eq5

@@ -12,7 +12,8 @@ use borrow.Author.Rules.{rules}
 use Rattle.history.proofs.keep.Given as goal
 
 abbrev pub invariant-loop-i : goal.invariant-loop-i
-invariant-loop-i l = (l.i ≤ length l.ws) × (length l.kept ≡ length l.initial.kept) × (l.kept ≡ put l.initial.kept l.base (tab (λ k. at l.w (get_or l.ws k 0)) l.i))
+invariant-loop-i l = (l.i ≤ length l.ws) × (length l.kept ≡ length l.initial.kept)
+    × (l.kept ≡ put l.initial.kept l.base (tab (λ k. at l.w (get_or l.ws k 0)) l.i))
 
 abbrev pub decreases-loop-i : goal.decreases-loop-i
 decreases-loop-i l = length l.ws - l.i

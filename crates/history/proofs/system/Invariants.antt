@@ -12,7 +12,8 @@ use borrow.Author.Rules.{rules}
 use Rattle.history.proofs.system.Given as goal
 
 abbrev pub invariant-loop-k : goal.invariant-loop-k
-invariant-loop-k l = (l.k ≤ l.shape.depth) × (length l.initial.m ≡ 10) × (l.m ≡ tab (system_row l.shape.depth l.shape.p l.size l.kept) l.k ++ drop l.k l.initial.m)
+invariant-loop-k l = (l.k ≤ l.shape.depth) × (length l.initial.m ≡ 10)
+    × (l.m ≡ tab (system_row l.shape.depth l.shape.p l.size l.kept) l.k ++ drop l.k l.initial.m)
 
 abbrev pub decreases-loop-k : goal.decreases-loop-k
 decreases-loop-k l = l.shape.depth - l.k

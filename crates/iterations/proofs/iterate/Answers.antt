@@ -31,7 +31,8 @@ few c = start_most _ _ _ _ c.start_size-start.ensures c.requires.0.weights
 inside : (c : After-construct_ws-many) → c.construct_ws-many.result ≤ length c.construct_ws-many.new.indices
 inside c =
     let places = c.construct_ws-many.auto.indices ∙ c.requires.2 in
-    let most = set_most _ _ _ (start_most _ _ _ _ c.start_size-start.ensures c.requires.0.weights) _ _ c.construct_ws-many.ensures.0 c.construct_ws-many.ensures.1 in
+    let most = set_most _ _ _ (start_most _ _ _ _ c.start_size-start.ensures c.requires.0.weights) _ _ c.construct_ws-many.ensures.0
+    c.construct_ws-many.ensures.1 in
     le_trans most (le_of_eq (c.requires.0.weights ∙ sym places))
 
 -- it is the one that the definition chooses
@@ -39,7 +40,8 @@ chosen : (c : After-construct_ws-many) → let a = c.args in take c.construct_ws
     ≡ chosen_set (task_with (given a.shape a.starts.now a.rows.now a.values.now a.y.now) a.settings.penalty a.prepared.now) a.settings
     (point_with a.w.now a.fit.now)
 chosen c =
-    let made = set_built _ _ _ (start_most _ _ _ _ c.start_size-start.ensures c.requires.0.weights) _ _ c.construct_ws-many.ensures.0 c.construct_ws-many.ensures.1 in
+    let made = set_built _ _ _ (start_most _ _ _ _ c.start_size-start.ensures c.requires.0.weights) _ _ c.construct_ws-many.ensures.0
+    c.construct_ws-many.ensures.1 in
     set-chosen _ _ _ _ _ _ _ c.start_size-start.ensures c.requires.4 made
 
 -- the totals grow by what the epochs counted, however they end
@@ -92,17 +94,19 @@ one_more-requires-in-Stopped c =
 
 pub returns-in-Going : goal.returns-in-Going
 returns-in-Going c =
+    let here = goal.at.returns-in-Going c in
     let is = c.in-Going.is in
-    let shown = shown_going _ _ _ _ _ _ _ _ _ (chosen (goal.at.returns-in-Going c).After-construct_ws-many) _ _ _ _ c.run_epochs.ensures.0 in
-    let counted = ap (λ (r : InnerStep). counts_of r (totals (goal.at.returns-in-Going c).After-run_epochs).counts) is in
-    rw c.one_more.ensures ((λ sets. shown sets _ is), grown (goal.at.returns-in-Going c).After-run_epochs _ counted)
+    let shown = shown_going _ _ _ _ _ _ _ _ _ (chosen here.After-construct_ws-many) _ _ _ _ c.run_epochs.ensures.0 in
+    let counted = ap (λ (r : InnerStep). counts_of r (totals here.After-run_epochs).counts) is in
+    rw c.one_more.ensures ((λ sets. shown sets _ is), grown here.After-run_epochs _ counted)
 
 pub returns-in-Stopped : goal.returns-in-Stopped
 returns-in-Stopped c =
+    let here = goal.at.returns-in-Stopped c in
     let is = c.in-Stopped.is in
-    let shown = shown_stopped _ _ _ _ _ _ _ _ _ (chosen (goal.at.returns-in-Stopped c).After-construct_ws-many) _ _ _ _ c.run_epochs.ensures.0 in
-    let counted = ap (λ (r : InnerStep). counts_of r (totals (goal.at.returns-in-Stopped c).After-run_epochs).counts) is in
-    rw c.one_more-in-Stopped.ensures ((λ sets. shown sets _ is), grown (goal.at.returns-in-Stopped c).After-run_epochs _ counted)
+    let shown = shown_stopped _ _ _ _ _ _ _ _ _ (chosen here.After-construct_ws-many) _ _ _ _ c.run_epochs.ensures.0 in
+    let counted = ap (λ (r : InnerStep). counts_of r (totals here.After-run_epochs).counts) is in
+    rw c.one_more-in-Stopped.ensures ((λ sets. shown sets _ is), grown here.After-run_epochs _ counted)
 
 pub returns-in-Bad : goal.returns-in-Bad
 returns-in-Bad c =

@@ -31,10 +31,12 @@ opt_cond_violation-requires c =
 
 pub returns-in-Bad : goal.returns-in-Bad
 returns-in-Bad c =
-    let is = sym (ap (λ (r : Worst). measured_of r (violations (goal.at.returns-in-Bad c).After-opt_cond_violation)) c.in-Bad.is) ∙ c.opt_cond_violation.ensures in
+    let here = goal.at.returns-in-Bad c in
+    let is = sym (ap (λ (r : Worst). measured_of r (violations here.After-opt_cond_violation)) c.in-Bad.is) ∙ c.opt_cond_violation.ensures in
     λ sets. rw (c.not_finite.ensures, ← turn-bad _ _ _ _ _ _ _ _ sets is)
 
 pub returns-in-Is : goal.returns-in-Is
 returns-in-Is c =
-    let is = sym (ap (λ (r : Worst). measured_of r (violations (goal.at.returns-in-Is c).After-opt_cond_violation)) c.in-Is.is) ∙ c.opt_cond_violation.ensures in
-    λ sets. rw c.at_violation.ensures (last_stops _ _ _ _ _ _ _ _ _ _ (long (goal.at.returns-in-Is c).After-opt_cond_violation) is sets refl)
+    let here = goal.at.returns-in-Is c in
+    let is = sym (ap (λ (r : Worst). measured_of r (violations here.After-opt_cond_violation)) c.in-Is.is) ∙ c.opt_cond_violation.ensures in
+    λ sets. rw c.at_violation.ensures (last_stops _ _ _ _ _ _ _ _ _ _ (long here.After-opt_cond_violation) is sets refl)

@@ -32,35 +32,39 @@ opt_cond_violation-requires c =
 
 pub returns-then-v-settings : goal.returns-then-v-settings
 returns-then-v-settings c =
-    let is = sym (ap (λ (r : Worst). measured_of r (violations (goal.at.returns-then-v-settings c).After-opt_cond_violation)) c.in-Is.is) ∙ c.opt_cond_violation.ensures in (
-      λ t l sets. rw c.at_violation.ensures (turn_stops _ _ _ t _ _ _ _ _ _ (long (goal.at.returns-then-v-settings c).After-opt_cond_violation) is sets c.if-v-settings.true),
+    let here = goal.at.returns-then-v-settings c in
+    let is = sym (ap (λ (r : Worst). measured_of r (violations here.After-opt_cond_violation)) c.in-Is.is) ∙ c.opt_cond_violation.ensures in (
+      λ t l sets. rw c.at_violation.ensures (turn_stops _ _ _ t _ _ _ _ _ _ (long here.After-opt_cond_violation) is sets c.if-v-settings.true),
       rw c.at_violation.ensures (grown-same _ _),
     )
 
 pub iterate-requires : goal.iterate-requires
 iterate-requires c =
-    let same = long_as_before c.args.shape c.args.scratch.now (violations (goal.at.iterate-requires c).After-opt_cond_violation) in
-    let is = sym (ap (λ (r : Worst). measured_of r (violations (goal.at.iterate-requires c).After-opt_cond_violation)) c.in-Is.is) ∙ c.opt_cond_violation.ensures in (
-      ready_still c.requires.0 _ _ _ refl refl (same (long (goal.at.iterate-requires c).After-opt_cond_violation) (room_for c.requires.0)),
+    let here = goal.at.iterate-requires c in
+    let same = long_as_before c.args.shape c.args.scratch.now (violations here.After-opt_cond_violation) in
+    let is = sym (ap (λ (r : Worst). measured_of r (violations here.After-opt_cond_violation)) c.in-Is.is) ∙ c.opt_cond_violation.ensures in (
+      ready_still c.requires.0 _ _ _ refl refl (same (long here.After-opt_cond_violation) (room_for c.requires.0)),
       c.requires.1,
       c.requires.2,
       c.requires.3,
-      violations-read c.args.shape _ _ (long (goal.at.iterate-requires c).After-opt_cond_violation) ∙ found-violations _ _ _ _ _ is,
+      violations-read c.args.shape _ _ (long here.After-opt_cond_violation) ∙ found-violations _ _ _ _ _ is,
       found-known _ _ _ _ _ is,
     )
 
 pub returns-in-Bad : goal.returns-in-Bad
 returns-in-Bad c =
-    let is = sym (ap (λ (r : Worst). measured_of r (violations (goal.at.returns-in-Bad c).After-opt_cond_violation)) c.in-Bad.is) ∙ c.opt_cond_violation.ensures in
+    let here = goal.at.returns-in-Bad c in
+    let is = sym (ap (λ (r : Worst). measured_of r (violations here.After-opt_cond_violation)) c.in-Bad.is) ∙ c.opt_cond_violation.ensures in
     (λ t l sets. turn-bad _ _ _ _ _ _ _ _ sets is, grown-none _)
 
 pub returns-else-v-settings : goal.returns-else-v-settings
 returns-else-v-settings c =
+    let here = goal.at.returns-else-v-settings c in
     let iterated = c.iterate in
-    let is = sym (ap (λ (r : Worst). measured_of r (violations (goal.at.returns-else-v-settings c).After-opt_cond_violation)) c.in-Is.is) ∙ c.opt_cond_violation.ensures in
+    let is = sym (ap (λ (r : Worst). measured_of r (violations here.After-opt_cond_violation)) c.in-Is.is) ∙ c.opt_cond_violation.ensures in
     let next = iterated.new in (
       λ t l sets.
-          turn_goes_on _ _ _ t _ _ _ _ _ _ (long (goal.at.returns-else-v-settings c).After-opt_cond_violation) is sets c.if-v-settings.false l
+          turn_goes_on _ _ _ t _ _ _ _ _ _ (long here.After-opt_cond_violation) is sets c.if-v-settings.false l
           iterated.result next.w next.fit next.scratch (iterated.ensures.0 sets),
       iterated.ensures.1,
     )

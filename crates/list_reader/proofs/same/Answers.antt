@@ -1,6 +1,7 @@
 -- `list_reader::same` tells two doubles apart. Numbers that are equal and not zero are both what one fraction is rounded to; a zero is written
 -- in one way but for its sign, which is the sign of 1 / x. Assumes nothing.
-use Rattle.std.proofs.Common.{◌≡◌, ℕ, zero, suc, ◌*◌, ◌<◌, Bool, true, false, ◌||◌, T, eqb, ℤ, pos, sym, refl, ap, ◌∙◌, subst, true≢false, zero-lt-suc, mul-pos, arith, eqb→eq}
+use Rattle.std.proofs.Common.{◌≡◌, ℕ, zero, suc, ◌*◌, ◌<◌, Bool, true, false, ◌||◌, T, eqb, ℤ, pos, sym, refl, ap, ◌∙◌, subst, true≢false, zero-lt-suc}
+use Rattle.std.proofs.Common.{mul-pos, arith, eqb→eq}
 use mathlib.Core.Bool.{beq, false≢true}
 use borrow.Author.Tests.{not-true, not-false}
 use lib.Ieee.{Float, nan, inf, fin, binary64, up, down, level, round, of_bits, div, eq, ne, is_nan, fits}

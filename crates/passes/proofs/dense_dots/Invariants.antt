@@ -12,7 +12,8 @@ use borrow.Author.Rules.{rules}
 use Rattle.passes.proofs.dense_dots.Given as goal
 
 abbrev pub invariant-loop-i : goal.invariant-loop-i
-invariant-loop-i l = (l.i ≤ l.n) × (length l.buf ≡ length l.initial.buf) × (l.buf ≡ sums (λ k j. at l.values (k * length l.initial.buf + j) ⊗ at l.v k) (length l.initial.buf) l.i)
+invariant-loop-i l = (l.i ≤ l.n) × (length l.buf ≡ length l.initial.buf)
+    × (l.buf ≡ sums (λ k j. at l.values (k * length l.initial.buf + j) ⊗ at l.v k) (length l.initial.buf) l.i)
 
 abbrev pub decreases-loop-i : goal.decreases-loop-i
 decreases-loop-i l = l.n - l.i

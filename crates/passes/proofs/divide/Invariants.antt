@@ -13,7 +13,8 @@ use borrow.Author.Rules.{rules}
 use Rattle.passes.proofs.divide.Given as goal
 
 abbrev pub invariant-loop-j : goal.invariant-loop-j
-invariant-loop-j l = (l.j ≤ length l.initial.buf) × (length l.buf ≡ length l.initial.buf) × (l.buf ≡ tab (λ k. at l.initial.buf k ⊘ count l.n) l.j ++ drop l.j l.initial.buf)
+invariant-loop-j l = (l.j ≤ length l.initial.buf) × (length l.buf ≡ length l.initial.buf)
+    × (l.buf ≡ tab (λ k. at l.initial.buf k ⊘ count l.n) l.j ++ drop l.j l.initial.buf)
 
 abbrev pub decreases-loop-j : goal.decreases-loop-j
 decreases-loop-j l = length l.initial.buf - l.j

@@ -81,7 +81,8 @@ module _ (g : Given) {c σ : ℕ → Bool} {t : Bool} {values' y' : List Float} 
   unfolding prepare_call
   prepare-same = rw (← tests_same) (go (preparation_fault g buf) refl)
     where
-      go : (f : Fault) → preparation_fault g buf ≡ f → (f then unless (all_usable p (prepared_of g)) 7 none) ≡ (f then unless (all_usable p (prepared_of g')) 7 none)
+      go : (f : Fault) → preparation_fault g buf ≡ f → (f then unless (all_usable p (prepared_of g)) 7 none)
+          ≡ (f then unless (all_usable p (prepared_of g')) 7 none)
       go (answered u) e = rw (usable_same (numbers-turned e))
       go (refused number place) e = refl
 

@@ -130,7 +130,12 @@ module _ (c : ℕ → Bool) (t : Bool) (X : Design) (other : ℕ → ℕ → Flo
       fine-same : fine (first turning) q j ≡ fine (second turning) q' j
       unfolding fine
       fine-same =
-          rw (finite-turned (gradient_of_lem r j l), finite-turned new_weight_lem, moved_finite-same X other j (c j) t (λ k m. entries j k l m) difference r.other)
+          rw (
+            finite-turned (gradient_of_lem r j l),
+            finite-turned new_weight_lem,
+            moved_finite-same X other j (c j) t
+                (λ k m. entries j k l m) difference r.other,
+          )
 
       visited-fit : Signs (λ (i : ℕ). t) (visited (first turning) q j).fit (visited (second turning) q' j).fit
       unfolding visited

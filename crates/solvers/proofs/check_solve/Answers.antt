@@ -14,8 +14,9 @@ returns-in-Refused c = early_refused _ _ _ _ _ c.check_early.ensures _ c.in-Refu
 
 pub has_room-room-requires : goal.has_room-room-requires
 has_room-room-requires c =
+    let here = goal.at.has_room-room-requires c in
     let legal = (early_passed _ _ _ c.check_early.ensures c.in_default.is).1 in
-    ((sizes-fit (goal.at.has_room-room-requires c).In_default).few, (sizes-fit (goal.at.has_room-room-requires c).In_default).narrow, legal)
+    ((sizes-fit here.In_default).few, (sizes-fit here.In_default).narrow, legal)
 
 pub check_sized-given-requires : goal.check_sized-given-requires
 check_sized-given-requires c =

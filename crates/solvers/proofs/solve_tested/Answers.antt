@@ -28,12 +28,14 @@ scratch-long c room = le_trans (le_of_eq c.scratch_room-room.ensures) room
 
 pub overflow_add-twice : goal.overflow_add-twice
 overflow_add-twice c =
-    let small = narrow (problem (goal.at.overflow_add-twice c).Start) c.args.settings c.args.prepared.now (buffers (goal.at.overflow_add-twice c).Start) c.requires in
+    let here = goal.at.overflow_add-twice c in
+    let small = narrow (problem here.Start) c.args.settings c.args.prepared.now (buffers here.Start) c.requires in
     omega arith
 
 pub scratch_room-room-requires : goal.scratch_room-room-requires
 scratch_room-room-requires c =
-    let ready = run_ready (problem (goal.at.scratch_room-room-requires c).Start) c.args.settings c.args.prepared.now (buffers (goal.at.scratch_room-room-requires c).Start) c.requires in
+    let here = goal.at.scratch_room-room-requires c in
+    let ready = run_ready (problem here.Start) c.args.settings c.args.prepared.now (buffers here.Start) c.requires in
     (ready.samples, ready.features, ready.legal)
 
 pub slice_bounds-solve_inside-end : goal.slice_bounds-solve_inside-end
@@ -58,27 +60,33 @@ pub slice_bounds-solve_inside-end-7 : goal.slice_bounds-solve_inside-end-7
 slice_bounds-solve_inside-end-7 c = sym (length-take-le _ _ (have (goal.at.slice_bounds-solve_inside-end-7 c).Start).indices)
 
 pub slice_bounds-solve_inside-end-8 : goal.slice_bounds-solve_inside-end-8
-slice_bounds-solve_inside-end-8 c = scratch-long (goal.at.slice_bounds-solve_inside-end-8 c).After-scratch_room-room (have (goal.at.slice_bounds-solve_inside-end-8 c).Start).scratch
+slice_bounds-solve_inside-end-8 c =
+    let here = goal.at.slice_bounds-solve_inside-end-8 c in
+    scratch-long here.After-scratch_room-room (have here.Start).scratch
 
 pub slice_bounds-solve_inside-end-9 : goal.slice_bounds-solve_inside-end-9
-slice_bounds-solve_inside-end-9 c = sym (length-take-le _ _ (scratch-long (goal.at.slice_bounds-solve_inside-end-9 c).After-scratch_room-room (have (goal.at.slice_bounds-solve_inside-end-9 c).Start).scratch))
+slice_bounds-solve_inside-end-9 c =
+    let here = goal.at.slice_bounds-solve_inside-end-9 c in
+    sym (length-take-le _ _ (scratch-long here.After-scratch_room-room (have here.Start).scratch))
 
 pub solve_inside-requires : goal.solve_inside-requires
 solve_inside-requires c =
-    let ready = run_ready (problem (goal.at.solve_inside-requires c).Start) c.args.settings c.args.prepared.now (buffers (goal.at.solve_inside-requires c).Start) c.requires in
-    (rw c.scratch_room-room.ensures ready, length-take-le _ _ (have (goal.at.solve_inside-requires c).Start).prepared, length-take-le _ _ (have (goal.at.solve_inside-requires c).Start).indices)
+    let here = goal.at.solve_inside-requires c in
+    let ready = run_ready (problem here.Start) c.args.settings c.args.prepared.now (buffers here.Start) c.requires in
+    (rw c.scratch_room-room.ensures ready, length-take-le _ _ (have here.Start).prepared, length-take-le _ _ (have here.Start).indices)
 
 pub returns : goal.returns
 returns c =
+    let here = goal.at.returns c in
     let run = c.solve_inside in
     let a = c.args in
     let last = run.new in
     let kept = run.auto in
-    let weights = put_front a.w.now a.shape.p last.w _ (have (goal.at.returns c).Start).weights kept.w refl in
-    let fit = put_front a.fit.now a.shape.n last.fit _ (have (goal.at.returns c).Start).fit kept.fit refl in
-    let indices = put_front a.indices.now a.shape.p last.indices _ (have (goal.at.returns c).Start).indices kept.indices refl in
+    let weights = put_front a.w.now a.shape.p last.w _ (have here.Start).weights kept.w refl in
+    let fit = put_front a.fit.now a.shape.n last.fit _ (have here.Start).fit kept.fit refl in
+    let indices = put_front a.indices.now a.shape.p last.indices _ (have here.Start).indices kept.indices refl in
     let room = c.scratch_room-room.result in
-    let scratch = put_front a.scratch.now room last.scratch _ (scratch-long (goal.at.returns c).After-scratch_room-room (have (goal.at.returns c).Start).scratch) kept.scratch refl in
-    let end = solved (task_of (problem (goal.at.returns c).Start) a.settings a.prepared.now) a.y.now a.settings in
-    let left = buffers-left a.shape a.settings (buffers (goal.at.returns c).Start) end _ _ _ _ _ _ _ _ run.ensures.1 run.ensures.2 run.ensures.3 in
+    let scratch = put_front a.scratch.now room last.scratch _ (scratch-long here.After-scratch_room-room (have here.Start).scratch) kept.scratch refl in
+    let end = solved (task_of (problem here.Start) a.settings a.prepared.now) a.y.now a.settings in
+    let left = buffers-left a.shape a.settings (buffers here.Start) end _ _ _ _ _ _ _ _ run.ensures.1 run.ensures.2 run.ensures.3 in
     (run.ensures.0, left weights fit indices scratch)

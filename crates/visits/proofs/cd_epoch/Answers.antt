@@ -35,12 +35,14 @@ visit-requires c =
 
 pub returns-else-visit : goal.returns-else-visit
 returns-else-visit c =
-    let broken = visits_broken (problem (goal.at.returns-else-visit c).Start) c.args.ws.now (first (goal.at.returns-else-visit c).Start) _ _ _ _ _ c.loop-i.invariant.3 _ c.feature_of-next.ensures in
+    let here = goal.at.returns-else-visit c in
+    let broken = visits_broken (problem here.Start) c.args.ws.now (first here.Start) _ _ _ _ _ c.loop-i.invariant.3 _ c.feature_of-next.ensures in
     broken c.visit.ensures c.if-visit.false c.loop-i-test.true
 
 pub loop-i-preserved : goal.loop-i-preserved
 loop-i-preserved c =
-    let next = visits-more (problem (goal.at.loop-i-preserved c).Start) c.args.ws.now (first (goal.at.loop-i-preserved c).Start) _ _ _ _ _ c.loop-i.invariant.3 _ c.feature_of-next.ensures in
+    let here = goal.at.loop-i-preserved c in
+    let next = visits-more (problem here.Start) c.args.ws.now (first here.Start) _ _ _ _ _ c.loop-i.invariant.3 _ c.feature_of-next.ensures in
     let more = next c.visit.ensures c.if-visit.true in
     (search rules, search rules, search rules, more)
 

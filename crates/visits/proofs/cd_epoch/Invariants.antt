@@ -13,7 +13,8 @@ use Rattle.visits.proofs.cd_epoch.Given as goal
 abbrev pub invariant-loop-i : goal.invariant-loop-i
 invariant-loop-i l = (l.i ≤ length l.ws) × (length l.w ≡ l.shape.p) × (length l.fit ≡ l.shape.n)
     × (going (record { weights = l.w; fit = l.fit })
-    ≡ upto (λ k. visit (task l.shape l.starts l.rows l.values l.penalty l.prepared) (get_or l.ws k 0)) l.i (record { weights = l.initial.w; fit = l.initial.fit }))
+    ≡ upto (λ k. visit (task l.shape l.starts l.rows l.values l.penalty l.prepared) (get_or l.ws k 0)) l.i
+    (record { weights = l.initial.w; fit = l.initial.fit }))
 
 abbrev pub decreases-loop-i : goal.decreases-loop-i
 decreases-loop-i l = length l.ws - l.i

@@ -11,7 +11,8 @@ use Rattle.visits.proofs.ws_violation.Given as goal
 
 abbrev pub invariant-loop-i : goal.invariant-loop-i
 invariant-loop-i l = (l.i ≤ length l.ws)
-    × Passed l.penalty (λ k. at l.w (get_or l.ws k 0)) (λ k. gradient_of (task l.shape l.starts l.rows l.values l.penalty l.prepared) l.fit (get_or l.ws k 0)) l.i l.largest
+    × Passed l.penalty (λ k. at l.w (get_or l.ws k 0))
+    (λ k. gradient_of (task l.shape l.starts l.rows l.values l.penalty l.prepared) l.fit (get_or l.ws k 0)) l.i l.largest
 
 abbrev pub decreases-loop-i : goal.decreases-loop-i
 decreases-loop-i l = length l.ws - l.i

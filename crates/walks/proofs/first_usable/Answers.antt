@@ -69,15 +69,16 @@ overflow_add-k c =
 
 pub loop-k-preserved : goal.loop-k-preserved
 loop-k-preserved c =
+    let here = goal.at.loop-k-preserved c in
     let begun = c.loop-k in
     let a = c.args in
     let tries = tried_alpha _ a.settings _ _ _ _ _ c.settings_at.ensures c.try_fit.result _ _ _ _ c.try_fit.ensures in (
       (let below = c.loop-k-test.true in search rules),
       still_none _ _ _ _ begun.invariant.1 _ _ c.in_default.is tries.0,
-      weights-long (goal.at.loop-k-preserved c).After-try_fit,
-      fit-long (goal.at.loop-k-preserved c).After-try_fit,
-      indices-long (goal.at.loop-k-preserved c).After-try_fit,
-      scratch-long (goal.at.loop-k-preserved c).After-try_fit,
+      weights-long here.After-try_fit,
+      fit-long here.After-try_fit,
+      indices-long here.After-try_fit,
+      scratch-long here.After-try_fit,
     )
 
 pub shape_of-w : goal.shape_of-w

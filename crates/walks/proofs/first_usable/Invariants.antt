@@ -15,7 +15,8 @@ abbrev pub invariant-loop-k : goal.invariant-loop-k
 invariant-loop-k l =
     (l.k ≤ length l.alphas)
     × (Nowhere ≡ first_usable l.settings l.most (fit_with (given l.shape l.starts l.rows l.values l.y) l.settings l.alphas l.prepared) l.k)
-    × (length l.w ≡ length l.initial.w) × (length l.fit ≡ length l.initial.fit) × (length l.indices ≡ length l.initial.indices) × (length l.scratch ≡ length l.initial.scratch)
+    × (length l.w ≡ length l.initial.w) × (length l.fit ≡ length l.initial.fit) × (length l.indices ≡ length l.initial.indices)
+    × (length l.scratch ≡ length l.initial.scratch)
 
 abbrev pub decreases-loop-k : goal.decreases-loop-k
 decreases-loop-k l = length l.alphas - l.k

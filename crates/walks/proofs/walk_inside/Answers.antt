@@ -20,16 +20,17 @@ numbers-zero c =
 
 pub returns-in-Refused : goal.returns-in-Refused
 returns-in-Refused c =
+    let here = goal.at.returns-in-Refused c in
     let S = c.args.settings in
     let kept = c.try_prepared-tried.auto in
     let zero = c.give_up.ensures in
     let weights = zero.1 ∙ ap zeros (kept.w ∙ c.requires.0.weights) in
     let fit = zero.2 ∙ ap zeros (kept.fit ∙ c.requires.0.fits) in
     let indices = zero.3 ∙ ap (tab {A = ℕ} (λ j. 0)) (kept.indices ∙ c.requires.2) in
-    let scratch = zero.4 ∙ ap zeros (kept.scratch ∙ c.requires.0.room ∙ same-room (problem (goal.at.returns-in-Refused c).Start) S #0) in
+    let scratch = zero.4 ∙ ap zeros (kept.scratch ∙ c.requires.0.room ∙ same-room (problem here.Start) S #0) in
     let none = cleared S _ _ _ _ _ c.in-Refused.is c.try_prepared-tried.ensures.0 c.args.shape _ _ _ _ _ zero.0 in
     let left = none weights fit indices scratch in
-    (left.0, left.1, numbers-zero (goal.at.returns-in-Refused c).After-clear)
+    (left.0, left.1, numbers-zero here.After-clear)
 
 pub returns-in-Found : goal.returns-in-Found
 returns-in-Found c =

@@ -46,12 +46,14 @@ scratch-long c room = le_trans (le_of_eq (room-is c)) room
 
 pub overflow_add-twice : goal.overflow_add-twice
 overflow_add-twice c =
-    let small = narrow (problem (goal.at.overflow_add-twice c).Start) (tested (goal.at.overflow_add-twice c).Start) c.args.prepared.now (buffers (goal.at.overflow_add-twice c).Start) (solves (goal.at.overflow_add-twice c).Start) in
+    let here = goal.at.overflow_add-twice c in
+    let small = narrow (problem here.Start) (tested here.Start) c.args.prepared.now (buffers here.Start) (solves here.Start) in
     omega arith
 
 pub scratch_room-room-requires : goal.scratch_room-room-requires
 scratch_room-room-requires c =
-    let ready = run_ready (problem (goal.at.scratch_room-room-requires c).Start) (tested (goal.at.scratch_room-room-requires c).Start) c.args.prepared.now (buffers (goal.at.scratch_room-room-requires c).Start) (solves (goal.at.scratch_room-room-requires c).Start) in
+    let here = goal.at.scratch_room-room-requires c in
+    let ready = run_ready (problem here.Start) (tested here.Start) c.args.prepared.now (buffers here.Start) (solves here.Start) in
     (ready.samples, ready.features, rw c.at_alpha.ensures ready.legal)
 
 pub slice_bounds-walk_inside-end : goal.slice_bounds-walk_inside-end
@@ -79,31 +81,37 @@ pub slice_bounds-walk_inside-end-8 : goal.slice_bounds-walk_inside-end-8
 slice_bounds-walk_inside-end-8 c = sym (length-take-le _ _ (have (goal.at.slice_bounds-walk_inside-end-8 c).Start).indices)
 
 pub slice_bounds-walk_inside-end-9 : goal.slice_bounds-walk_inside-end-9
-slice_bounds-walk_inside-end-9 c = scratch-long (goal.at.slice_bounds-walk_inside-end-9 c).After-scratch_room-room (have (goal.at.slice_bounds-walk_inside-end-9 c).Start).scratch
+slice_bounds-walk_inside-end-9 c =
+    let here = goal.at.slice_bounds-walk_inside-end-9 c in
+    scratch-long here.After-scratch_room-room (have here.Start).scratch
 
 pub slice_bounds-walk_inside-end-10 : goal.slice_bounds-walk_inside-end-10
-slice_bounds-walk_inside-end-10 c = sym (length-take-le _ _ (scratch-long (goal.at.slice_bounds-walk_inside-end-10 c).After-scratch_room-room (have (goal.at.slice_bounds-walk_inside-end-10 c).Start).scratch))
+slice_bounds-walk_inside-end-10 c =
+    let here = goal.at.slice_bounds-walk_inside-end-10 c in
+    sym (length-take-le _ _ (scratch-long here.After-scratch_room-room (have here.Start).scratch))
 
 pub walk_inside-requires : goal.walk_inside-requires
 walk_inside-requires c =
-    let ready = run_ready (problem (goal.at.walk_inside-requires c).Start) (tested (goal.at.walk_inside-requires c).Start) c.args.prepared.now (buffers (goal.at.walk_inside-requires c).Start) (solves (goal.at.walk_inside-requires c).Start) in
+    let here = goal.at.walk_inside-requires c in
+    let ready = run_ready (problem here.Start) (tested here.Start) c.args.prepared.now (buffers here.Start) (solves here.Start) in
     let ok = passed _ c.args.settings c.args.alphas.now _ _ c.requires in
-    (rw (room-is (goal.at.walk_inside-requires c).After-scratch_room-room) ready, length-take-le _ _ (have (goal.at.walk_inside-requires c).Start).prepared, length-take-le _ _ (have (goal.at.walk_inside-requires c).Start).indices, ok.list)
+    (rw (room-is here.After-scratch_room-room) ready, length-take-le _ _ (have here.Start).prepared, length-take-le _ _ (have here.Start).indices, ok.list)
 
 pub returns : goal.returns
 returns c =
+    let here = goal.at.returns c in
     let run = c.walk_inside in
     let a = c.args in
     let last = run.new in
     let kept = run.auto in
-    let numbers = put_front a.prepared.now _ last.prepared _ (have (goal.at.returns c).Start).prepared kept.prepared run.ensures.2 in
-    let weights = put_front a.w.now a.shape.p last.w _ (have (goal.at.returns c).Start).weights kept.w refl in
-    let fit = put_front a.fit.now a.shape.n last.fit _ (have (goal.at.returns c).Start).fit kept.fit refl in
-    let indices = put_front a.indices.now a.shape.p last.indices _ (have (goal.at.returns c).Start).indices kept.indices refl in
+    let numbers = put_front a.prepared.now _ last.prepared _ (have here.Start).prepared kept.prepared run.ensures.2 in
+    let weights = put_front a.w.now a.shape.p last.w _ (have here.Start).weights kept.w refl in
+    let fit = put_front a.fit.now a.shape.n last.fit _ (have here.Start).fit kept.fit refl in
+    let indices = put_front a.indices.now a.shape.p last.indices _ (have here.Start).indices kept.indices refl in
     let room = c.scratch_room-room.result in
-    let scratch = put_front a.scratch.now room last.scratch _ (scratch-long (goal.at.returns c).After-scratch_room-room (have (goal.at.returns c).Start).scratch) kept.scratch refl in
-    let end = end_of a.settings a.most (fit_passed (problem (goal.at.returns c).Start) a.settings a.alphas.now) (length a.alphas.now) in
+    let scratch = put_front a.scratch.now room last.scratch _ (scratch-long here.After-scratch_room-room (have here.Start).scratch) kept.scratch refl in
+    let end = end_of a.settings a.most (fit_passed (problem here.Start) a.settings a.alphas.now) (length a.alphas.now) in
     let holds = run.ensures.1 in
-    let left = buffers-left a.shape a.settings (buffers (goal.at.returns c).Start) end _ _ _ _ _ _ _ _ holds.leaves holds.indices holds.scratch in
-    let walked = left-walk (problem (goal.at.returns c).Start) a.settings a.alphas.now a.prepared.now (buffers (goal.at.returns c).Start) c.requires a.most in
+    let left = buffers-left a.shape a.settings (buffers here.Start) end _ _ _ _ _ _ _ _ holds.leaves holds.indices holds.scratch in
+    let walked = left-walk (problem here.Start) a.settings a.alphas.now a.prepared.now (buffers here.Start) c.requires a.most in
     walked _ _ _ run.ensures.0 (left weights fit indices scratch) numbers

@@ -18,15 +18,17 @@ indices-clear c =
 
 pub returns-in-GivenUp : goal.returns-in-GivenUp
 returns-in-GivenUp c =
+    let here = goal.at.returns-in-GivenUp c in
     let kept = c.start_run-ended.auto in
     let gave = c.give_up.ensures in
     let up = run-given_up c.args.settings c.args.shape _ _ _ _ _ c.start_run-ended.ensures _ c.in-GivenUp.is in
     let ends = up _ _ gave.1 gave.2 (kept.w ∙ c.requires.0.weights) (kept.fit ∙ c.requires.0.fits) in
-    (rw gave.0 ends.0, ends.1, indices-clear (goal.at.returns-in-GivenUp c).After-clear_indices, scratch-clear (goal.at.returns-in-GivenUp c).After-clear)
+    (rw gave.0 ends.0, ends.1, indices-clear here.After-clear_indices, scratch-clear here.After-clear)
 
 pub returns-in-Done : goal.returns-in-Done
 returns-in-Done c =
+    let here = goal.at.returns-in-Done c in
     let a = c.args in
     let done = run-done a.settings a.shape _ _ _ _ _ c.start_run-ended.ensures _ c.in-Done.is in
     let ends = done _ c.report.ensures in
-    (ends.0, ends.1, indices-clear (goal.at.returns-in-Done c).After-clear_indices, scratch-clear (goal.at.returns-in-Done c).After-clear)
+    (ends.0, ends.1, indices-clear here.After-clear_indices, scratch-clear here.After-clear)

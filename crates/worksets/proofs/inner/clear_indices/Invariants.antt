@@ -9,7 +9,8 @@ use borrow.Author.Rules.{rules}
 use Rattle.worksets.proofs.inner.clear_indices.Given as goal
 
 abbrev pub invariant-loop-k : goal.invariant-loop-k
-invariant-loop-k l = (l.k ≤ length l.initial.indices) × (l.indices ≡ tab {A = ℕ} (λ i. 0) l.k ++ drop l.k l.initial.indices) × (length l.indices ≡ length l.initial.indices)
+invariant-loop-k l = (l.k ≤ length l.initial.indices)
+    × (l.indices ≡ tab {A = ℕ} (λ i. 0) l.k ++ drop l.k l.initial.indices) × (length l.indices ≡ length l.initial.indices)
 
 abbrev pub decreases-loop-k : goal.decreases-loop-k
 decreases-loop-k l = length l.initial.indices - l.k

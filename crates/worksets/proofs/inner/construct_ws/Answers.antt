@@ -34,8 +34,9 @@ size-many-requires c =
 
 pub offset_bounds-indices-nonzero : goal.offset_bounds-indices-nonzero
 offset_bounds-indices-nonzero c =
-    let low = (between (goal.at.offset_bounds-indices-nonzero c).After-size-many).0 in
-    let high = (between (goal.at.offset_bounds-indices-nonzero c).After-size-many).1 in
+    let here = goal.at.offset_bounds-indices-nonzero c in
+    let low = (between here.After-size-many).0 in
+    let high = (between here.After-size-many).1 in
     let most = c.requires.1 in
     search rules
 
@@ -47,9 +48,10 @@ slice_bounds-rank-start c = (between (goal.at.slice_bounds-rank-start c).After-s
 
 pub rank-requires : goal.rank-requires
 rank-requires c =
+    let here = goal.at.rank-requires c in
     let a = c.args in
     let room = rank_room a.start a.kkt.now a.w.now c.support-nonzero.result c.size-many.result in
-    let left = room c.requires.2 c.support-nonzero.ensures.0 c.size-many.ensures c.support-nonzero.new.indices (long (goal.at.rank-requires c).After-support-nonzero) in
+    let left = room c.requires.2 c.support-nonzero.ensures.0 c.size-many.ensures c.support-nonzero.new.indices (long here.After-support-nonzero) in
     (c.requires.0, c.requires.1, left, c.requires.4)
 
 pub returns : goal.returns

@@ -33,11 +33,12 @@ returns-then-is_bad_violation c =
     mark_here (bad (goal.at.returns-then-is_bad_violation c).In-loop-j) (λ i. i) _ _ c.loop-j.invariant.2 told _ c.if-is_bad_violation.true c.loop-j-test.true
 
 pub loop-j-preserved : goal.loop-j-preserved
-loop-j-preserved c = (
-  search rules,
-  search rules,
-  mark_on (bad (goal.at.loop-j-preserved c).In-loop-j) (λ i. i) _ _ c.loop-j.invariant.2 (is-bad _ _ _ _ c.is_bad_violation.ensures) c.if-is_bad_violation.false,
-)
+loop-j-preserved c =
+    let here = goal.at.loop-j-preserved c in (
+      search rules,
+      search rules,
+      mark_on (bad here.In-loop-j) (λ i. i) _ _ c.loop-j.invariant.2 (is-bad _ _ _ _ c.is_bad_violation.ensures) c.if-is_bad_violation.false,
+    )
 
 pub returns : goal.returns
 returns c = steps_all _ _ _ _ _ c.loop-j.invariant.2 c.loop-j.invariant.1 c.loop-j-test.false

@@ -10,7 +10,8 @@ use Rattle.worksets.proofs.inner.support.Given as goal
 
 abbrev pub invariant-loop-j : goal.invariant-loop-j
 invariant-loop-j l =
-    (l.j ≤ length l.w) × (length l.w ≤ 8192) × (length l.indices ≡ length l.initial.indices) × (length l.indices ≡ length l.w) × (l.c ≡ length (support l.w l.j)) ×
+    (l.j ≤ length l.w) × (length l.w ≤ 8192) × (length l.indices ≡ length l.initial.indices) × (length l.indices ≡ length l.w)
+    × (l.c ≡ length (support l.w l.j)) ×
     (l.indices ≡ padded (support l.w l.j) (length l.w))
 
 abbrev pub decreases-loop-j : goal.decreases-loop-j
