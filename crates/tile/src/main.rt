@@ -1,17 +1,16 @@
 // Reads a problem file on standard input and prints the listing of its fit, or the line of its refusal.
 #![tactic(auto)]
 
-use libc::{STDIN_FILENO, STDOUT_FILENO};
 use listings::Written;
+use std::io;
+use std::io::{Read, Write};
 
-fn main() {
-    let mut file = io::large_buffer();
-    let length = io::read_full(STDIN_FILENO, &mut file);
+fn main(rt: HostRuntime) -> io::Result<()> {
+    let mut file = Vec::new(rt.alloc());
+    rt.stdin().take(65536).read_to_end(&mut file)?;
     let mut out = [0u8; 8192];
-    match answers::answer(&file[..length], &mut out) {
-        Written::Refused(_) => {}
-        Written::Bytes(n) => {
-            io::write_all(STDOUT_FILENO, &out[..n]);
-        }
+    match answers::answer(file.as_slice(), &mut out) {
+        Written::Refused(_) => Ok(()),
+        Written::Bytes(n) => rt.stdout().write_all(&out[..n]),
     }
 }

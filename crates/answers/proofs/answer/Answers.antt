@@ -4,7 +4,6 @@ use native.Mathlib.Omega.{arith}
 use Rattle.answers.proofs.Laws.Calls.{read-refused, read_problem_lem, refusal-printed, fit-printed, own_room, own_places}
 use Rattle.files.specs.Call.{parsed_of, places}
 use Rattle.doubles.specs.Num.{#0}
-use borrow.Author.Rules.{rules}
 use Rattle.answers.proofs.answer.Goals as goal
 
 pub fit_listing-requires : goal.fit_listing-requires

@@ -8,7 +8,6 @@ use Rattle.definition.specs.Call.{fit_of, lent}
 use Rattle.answers.proofs.Laws.Calls.{fit-listed}
 use Rattle.answers.specs.Printed.{problem_fit, problem_left}
 use Rattle.answers.specs.Inner.InPlaces.{problem_in}
-use borrow.Author.Rules.{rules}
 use Rattle.answers.proofs.fit_listing.Goals as goal
 use Rattle.answers.proofs.fit_listing.Goals.{After-fit_problem-answer}
 

@@ -1,6 +1,5 @@
 -- `fit_problem`: the sizes and the settings, then the preparation, then the solve with what it left. Assumes nothing.
 use Rattle.answers.proofs.Laws.Calls.{early_refused, preparation-refused, problem-solved}
-use borrow.Author.Rules.{rules}
 use Rattle.answers.proofs.fit_problem.Goals as goal
 
 pub returns-in-Refused : goal.returns-in-Refused

@@ -1,9 +1,8 @@
 -- `all_finite`: the invariant is that all places passed are finite. Assumes nothing.
-use mathlib.Core.Path.{◌≡◌, sym, ◌∙◌}
-use Prim.Native.Nat.{◌≤◌, ◌-◌}
-use lib.ListN.{length}
+use mathlib.Core.Path.{sym, ◌∙◌}
+use Prim.Native.Nat.{◌-◌}
 use mathlib.Core.Bool.{true}
-use Rattle.doubles.specs.Num.{at, finite}
+use Rattle.doubles.specs.Num.{finite}
 use Rattle.doubles.specs.Steps.{all}
 use Rattle.doubles.proofs.Laws.Steps.{steps-none, steps_all, all_more, all_broken}
 use borrow.Author.Rules.{rules}

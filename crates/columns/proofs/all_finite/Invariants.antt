@@ -1,12 +1,10 @@
 -- `all_finite`: the invariant is that all places passed are finite. Assumes nothing.
-use mathlib.Core.Path.{◌≡◌, sym, ◌∙◌}
+use mathlib.Core.Path.{◌≡◌}
 use Prim.Native.Nat.{◌≤◌, ◌-◌}
 use lib.ListN.{length}
 use mathlib.Core.Bool.{true}
 use Rattle.doubles.specs.Num.{at, finite}
 use Rattle.doubles.specs.Steps.{all}
-use Rattle.doubles.proofs.Laws.Steps.{steps-none, steps_all, all_more, all_broken}
-use borrow.Author.Rules.{rules}
 use Rattle.columns.proofs.all_finite.Given as goal
 
 abbrev pub invariant-loop-i : goal.invariant-loop-i

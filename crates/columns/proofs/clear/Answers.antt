@@ -1,9 +1,6 @@
 -- `clear`: the invariant is what is written so far, and behind it what was there. Assumes nothing.
-use mathlib.Core.Path.{◌≡◌, refl}
-use Prim.Native.Nat.{◌≤◌, ◌-◌}
-use lib.ListN.{length, drop}
-use mathlib.Core.List.{◌++◌}
-use Rattle.doubles.specs.Num.{#0}
+use mathlib.Core.Path.{refl}
+use Prim.Native.Nat.{◌-◌}
 use Rattle.doubles.specs.Steps.{tab}
 use Rattle.doubles.proofs.Laws.Steps.{tab-none, tab-more, tab-all}
 use borrow.Author.Rules.{rules}

@@ -1,12 +1,10 @@
 -- `clear`: the invariant is what is written so far, and behind it what was there. Assumes nothing.
-use mathlib.Core.Path.{◌≡◌, refl}
+use mathlib.Core.Path.{◌≡◌}
 use Prim.Native.Nat.{◌≤◌, ◌-◌}
 use lib.ListN.{length, drop}
 use mathlib.Core.List.{◌++◌}
 use Rattle.doubles.specs.Num.{#0}
 use Rattle.doubles.specs.Steps.{tab}
-use Rattle.doubles.proofs.Laws.Steps.{tab-none, tab-more, tab-all}
-use borrow.Author.Rules.{rules}
 use Rattle.columns.proofs.clear.Given as goal
 
 abbrev pub invariant-loop-j : goal.invariant-loop-j

@@ -1,6 +1,5 @@
 -- `column_dot` goes by the layout. Assumes nothing.
 use Rattle.designs.proofs.Laws.Layouts.{held_dense, held_csc, as_dense, as_csc}
-use borrow.Author.Rules.{rules}
 use Rattle.columns.proofs.column_dot.Goals as goal
 
 pub dense_dot-requires : goal.dense_dot-requires

@@ -1,13 +1,9 @@
 -- `csc_dot`: the invariant is the sum over the stored entries passed; that each row is below n comes from soundness. Assumes nothing.
-use mathlib.Core.Path.{◌≡◌}
-use Prim.Native.Nat.{◌≤◌, ◌-◌, ◌+◌}
-use lib.ListN.{length, get_or}
-use Rattle.doubles.specs.Num.{◌⊗◌, at}
-use Rattle.doubles.specs.Steps.{sum as total}
+use Prim.Native.Nat.{◌-◌}
 use Rattle.doubles.proofs.Laws.Steps.{steps-none, steps-turn, steps_all}
 use Rattle.designs.specs.Design.{dot, csc}
 use borrow.Author.Rules.{rules}
-use Rattle.columns.proofs.Laws.Stored.{Within, stored_asked, stored-within}
+use Rattle.columns.proofs.Laws.Stored.{stored_asked, stored-within}
 use Rattle.columns.proofs.csc_dot.Goals as goal
 
 pub stored_of-stored-requires : goal.stored_of-stored-requires

@@ -4,10 +4,7 @@ use Prim.Native.Nat.{◌≤◌, ◌-◌, ◌+◌}
 use lib.ListN.{length, get_or}
 use Rattle.doubles.specs.Num.{◌⊗◌, at}
 use Rattle.doubles.specs.Steps.{sum as total}
-use Rattle.doubles.proofs.Laws.Steps.{steps-none, steps-turn, steps_all}
-use Rattle.designs.specs.Design.{dot, csc}
-use borrow.Author.Rules.{rules}
-use Rattle.columns.proofs.Laws.Stored.{Within, stored_asked, stored-within}
+use Rattle.columns.proofs.Laws.Stored.{Within}
 use Rattle.columns.proofs.csc_dot.Given as goal
 
 abbrev pub invariant-loop-k : goal.invariant-loop-k

@@ -1,7 +1,6 @@
 -- `csc_extrapolated_fit`: zeros, then the columns. Assumes nothing.
 use Rattle.designs.specs.Design.{csc}
 use Rattle.columns.proofs.Laws.ByRows.{from-zeros}
-use borrow.Author.Rules.{rules}
 use Rattle.columns.proofs.csc_extrapolated_fit.Goals as goal
 
 pub returns : goal.returns

@@ -1,14 +1,12 @@
 -- `csc_finite`: the invariant is that the fit is finite at the entries passed; that each row is below n comes from soundness. Assumes nothing.
 use borrow.Author.Rules.{rules}
-use mathlib.Core.Path.{◌≡◌}
 use mathlib.Core.Bool.{true}
-use Prim.Native.Nat.{◌≤◌, ◌-◌, ◌+◌}
-use lib.ListN.{length, get_or}
+use Prim.Native.Nat.{◌-◌}
 use Rattle.doubles.specs.Num.{at, finite}
 use Rattle.doubles.specs.Steps.{all}
 use Rattle.doubles.proofs.Laws.Steps.{steps-none, steps_all, all_more, all_broken}
 use Rattle.designs.specs.Design.{csc, finite_at}
-use Rattle.columns.proofs.Laws.Stored.{Within, stored_asked, stored-within}
+use Rattle.columns.proofs.Laws.Stored.{stored_asked, stored-within}
 use Rattle.columns.proofs.csc_finite.Goals as goal
 
 pub stored_of-stored-requires : goal.stored_of-stored-requires

@@ -1,14 +1,11 @@
 -- `csc_update`: the invariant is the definition's loop over the stored entries passed; that each row is below n comes from soundness.
 -- Assumes nothing.
-use mathlib.Core.Path.{◌≡◌, ◌∙◌}
-use Prim.Native.Nat.{◌≤◌, ◌<◌, ◌-◌, ◌+◌}
+use mathlib.Core.Path.{◌≡◌}
+use Prim.Native.Nat.{◌≤◌, ◌-◌, ◌+◌}
 use lib.ListN.{length, get_or, set}
 use Rattle.doubles.specs.Num.{◌⊕◌, ◌⊗◌, at}
 use Rattle.doubles.specs.Steps.{steps}
-use Rattle.doubles.proofs.Laws.Steps.{steps-none, steps-turn, steps_all}
-use Rattle.designs.specs.Design.{moved, csc}
-use borrow.Author.Rules.{rules}
-use Rattle.columns.proofs.Laws.Stored.{Within, stored_asked, stored-within}
+use Rattle.columns.proofs.Laws.Stored.{Within}
 use Rattle.columns.proofs.csc_update.Given as goal
 
 abbrev pub invariant-loop-k : goal.invariant-loop-k

@@ -1,7 +1,6 @@
 -- `csc_update_all`: the invariant is the definition's loop over the features passed. Assumes nothing.
-use mathlib.Core.Path.{◌≡◌, ◌∙◌}
-use Prim.Native.Nat.{◌≤◌, ◌<◌, ◌-◌}
-use lib.ListN.{length, get_or}
+use mathlib.Core.Path.{◌∙◌}
+use Prim.Native.Nat.{◌<◌, ◌-◌}
 use Rattle.doubles.specs.Num.{at}
 use Rattle.doubles.specs.Steps.{steps}
 use Rattle.doubles.proofs.Laws.Steps.{steps-none, steps-turn, steps_all}

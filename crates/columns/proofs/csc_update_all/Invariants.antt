@@ -1,13 +1,10 @@
 -- `csc_update_all`: the invariant is the definition's loop over the features passed. Assumes nothing.
-use mathlib.Core.Path.{◌≡◌, ◌∙◌}
-use Prim.Native.Nat.{◌≤◌, ◌<◌, ◌-◌}
+use mathlib.Core.Path.{◌≡◌}
+use Prim.Native.Nat.{◌≤◌, ◌-◌}
 use lib.ListN.{length, get_or}
 use Rattle.doubles.specs.Num.{at}
 use Rattle.doubles.specs.Steps.{steps}
-use Rattle.doubles.proofs.Laws.Steps.{steps-none, steps-turn, steps_all}
-use Rattle.designs.specs.Design.{csc, moved, moved_all}
-use native.Mathlib.Omega.{arith}
-use borrow.Author.Rules.{rules}
+use Rattle.designs.specs.Design.{csc, moved}
 use Rattle.columns.proofs.csc_update_all.Given as goal
 
 abbrev pub invariant-loop-k : goal.invariant-loop-k

@@ -1,10 +1,8 @@
 -- `dense_dot`: the invariant is the sum over the samples passed. Assumes nothing.
-use mathlib.Core.Path.{◌≡◌}
-use Prim.Native.Nat.{◌≤◌, ◌<◌, ◌-◌, ◌+◌, ◌*◌}
+use Prim.Native.Nat.{◌<◌, ◌-◌, ◌+◌, ◌*◌}
 use lib.ListN.{length}
 use native.Mathlib.Omega.{arith}
-use Rattle.doubles.specs.Num.{◌⊗◌, at}
-use Rattle.doubles.specs.Steps.{sum as total}
+use Rattle.doubles.specs.Num.{at}
 use Rattle.doubles.proofs.Laws.Steps.{steps-none, steps-more, steps_all}
 use Rattle.designs.specs.Design.{dot, dense}
 use Rattle.designs.proofs.Laws.Layouts.{cell}

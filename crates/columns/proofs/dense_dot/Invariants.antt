@@ -2,13 +2,8 @@
 use mathlib.Core.Path.{◌≡◌}
 use Prim.Native.Nat.{◌≤◌, ◌<◌, ◌-◌, ◌+◌, ◌*◌}
 use lib.ListN.{length}
-use native.Mathlib.Omega.{arith}
 use Rattle.doubles.specs.Num.{◌⊗◌, at}
 use Rattle.doubles.specs.Steps.{sum as total}
-use Rattle.doubles.proofs.Laws.Steps.{steps-none, steps-more, steps_all}
-use Rattle.designs.specs.Design.{dot, dense}
-use Rattle.designs.proofs.Laws.Layouts.{cell}
-use borrow.Author.Rules.{rules}
 use Rattle.columns.proofs.dense_dot.Given as goal
 
 abbrev pub invariant-loop-i : goal.invariant-loop-i

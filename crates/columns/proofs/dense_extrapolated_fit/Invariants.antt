@@ -1,16 +1,11 @@
 -- `dense_extrapolated_fit`: the invariant is the samples done, and behind them what was there; a law says that rows give what columns give.
 -- Assumes nothing.
-use mathlib.Core.Path.{◌≡◌, refl, sym, ◌∙◌}
-use Prim.Native.Nat.{◌≤◌, ◌<◌, ◌-◌, ◌+◌, ◌*◌}
+use mathlib.Core.Path.{◌≡◌}
+use Prim.Native.Nat.{◌≤◌, ◌-◌, ◌+◌, ◌*◌}
 use mathlib.Core.List.{◌++◌}
 use lib.ListN.{length, drop}
 use Rattle.doubles.specs.Steps.{tab}
-use Rattle.doubles.proofs.Laws.Steps.{tab-none, tab-more, tab-all}
-use Rattle.designs.proofs.Laws.Layouts.{row_inside}
 use Rattle.columns.specs.Inner.RowFit.{row_fit}
-use Rattle.columns.proofs.Laws.ByRows.{by_rows}
-use native.Mathlib.Omega.{arith}
-use borrow.Author.Rules.{rules}
 use Rattle.columns.proofs.dense_extrapolated_fit.Given as goal
 
 abbrev pub invariant-loop-i : goal.invariant-loop-i

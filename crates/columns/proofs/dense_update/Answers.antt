@@ -1,8 +1,7 @@
 -- `dense_update`: the invariant is the definition's loop over the samples passed. Assumes nothing.
-use mathlib.Core.Path.{◌≡◌}
-use Prim.Native.Nat.{◌≤◌, ◌<◌, ◌-◌, ◌+◌, ◌*◌}
+use Prim.Native.Nat.{◌<◌, ◌-◌, ◌+◌, ◌*◌}
 use lib.ListN.{length, set}
-use Rattle.doubles.specs.Num.{◌⊕◌, ◌⊗◌, at}
+use Rattle.doubles.specs.Num.{at}
 use Rattle.doubles.specs.Steps.{steps}
 use Rattle.doubles.proofs.Laws.Steps.{steps-none, steps-more, steps_all}
 use Rattle.designs.specs.Design.{moved, dense}

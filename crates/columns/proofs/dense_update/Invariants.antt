@@ -4,11 +4,6 @@ use Prim.Native.Nat.{◌≤◌, ◌<◌, ◌-◌, ◌+◌, ◌*◌}
 use lib.ListN.{length, set}
 use Rattle.doubles.specs.Num.{◌⊕◌, ◌⊗◌, at}
 use Rattle.doubles.specs.Steps.{steps}
-use Rattle.doubles.proofs.Laws.Steps.{steps-none, steps-more, steps_all}
-use Rattle.designs.specs.Design.{moved, dense}
-use Rattle.designs.proofs.Laws.Layouts.{cell}
-use native.Mathlib.Omega.{arith}
-use borrow.Author.Rules.{rules}
 use Rattle.columns.proofs.dense_update.Given as goal
 
 abbrev pub invariant-loop-i : goal.invariant-loop-i

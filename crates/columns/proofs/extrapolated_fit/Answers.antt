@@ -1,7 +1,6 @@
 -- `extrapolated_fit` goes by the layout. Assumes nothing.
 use Rattle.designs.proofs.Laws.Layouts.{held_dense, held_csc, as_dense, as_csc}
 use Rattle.columns.proofs.Laws.ByRows.{dense-sized, room-sized}
-use borrow.Author.Rules.{rules}
 use Rattle.columns.proofs.extrapolated_fit.Goals as goal
 
 pub dense_extrapolated_fit-requires : goal.dense_extrapolated_fit-requires

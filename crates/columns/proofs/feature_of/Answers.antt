@@ -1,6 +1,5 @@
 -- `feature_of` reads one entry of a working set. Assumes nothing.
 use native.Mathlib.Omega.{arith}
-use borrow.Author.Rules.{rules}
 use Rattle.columns.proofs.feature_of.Goals as goal
 
 pub overflow_cast-result : goal.overflow_cast-result

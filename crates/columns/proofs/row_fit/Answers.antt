@@ -1,9 +1,7 @@
 -- `row_fit`: the invariant is the sum over the features passed. Assumes nothing.
-use mathlib.Core.Path.{◌≡◌}
-use Prim.Native.Nat.{◌≤◌, ◌<◌, ◌-◌, ◌+◌}
-use lib.ListN.{length, get_or}
-use Rattle.doubles.specs.Num.{◌⊗◌, at}
-use Rattle.doubles.specs.Steps.{sum as total}
+use Prim.Native.Nat.{◌<◌, ◌-◌}
+use lib.ListN.{length}
+use Rattle.doubles.specs.Num.{at}
 use Rattle.doubles.proofs.Laws.Steps.{steps-none, steps-turn, steps_all}
 use Rattle.columns.specs.Inner.RowFit.{row_fit}
 use native.Mathlib.Omega.{arith}

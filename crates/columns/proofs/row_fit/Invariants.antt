@@ -1,13 +1,9 @@
 -- `row_fit`: the invariant is the sum over the features passed. Assumes nothing.
 use mathlib.Core.Path.{◌≡◌}
-use Prim.Native.Nat.{◌≤◌, ◌<◌, ◌-◌, ◌+◌}
+use Prim.Native.Nat.{◌≤◌, ◌-◌, ◌+◌}
 use lib.ListN.{length, get_or}
 use Rattle.doubles.specs.Num.{◌⊗◌, at}
 use Rattle.doubles.specs.Steps.{sum as total}
-use Rattle.doubles.proofs.Laws.Steps.{steps-none, steps-turn, steps_all}
-use Rattle.columns.specs.Inner.RowFit.{row_fit}
-use native.Mathlib.Omega.{arith}
-use borrow.Author.Rules.{rules}
 use Rattle.columns.proofs.row_fit.Given as goal
 
 abbrev pub invariant-loop-k : goal.invariant-loop-k

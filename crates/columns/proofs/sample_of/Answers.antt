@@ -1,6 +1,5 @@
 -- `sample_of` reads one row number. Assumes nothing.
 use native.Mathlib.Omega.{arith}
-use borrow.Author.Rules.{rules}
 use Rattle.columns.proofs.sample_of.Goals as goal
 
 pub overflow_cast-result : goal.overflow_cast-result

@@ -1,7 +1,6 @@
 -- `stored_of` reads two starts, which do not fall. Assumes nothing.
 use Prim.Native.Nat.{◌+◌}
 use native.Mathlib.Omega.{arith}
-use borrow.Author.Rules.{rules}
 use Rattle.columns.proofs.stored_of.Goals as goal
 
 pub overflow_cast-start : goal.overflow_cast-start

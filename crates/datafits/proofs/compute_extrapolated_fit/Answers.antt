@@ -6,7 +6,6 @@ use Rattle.doubles.proofs.Laws.Verdict.{stop, stop-left, pass, pass_left}
 use Rattle.designs.proofs.Laws.Passed.{admits}
 use Rattle.datafits.proofs.Laws.Calls.{each_below}
 use Rattle.datafits.specs.Calls.{extrapolated_fault, extrapolated_fit}
-use borrow.Author.Rules.{rules}
 use Rattle.datafits.proofs.compute_extrapolated_fit.Goals as goal
 
 pub compute_extrapolated_fit-requires : goal.compute_extrapolated_fit-requires

@@ -5,7 +5,6 @@ use Rattle.doubles.proofs.Laws.Choice.{and_both}
 use Rattle.doubles.proofs.Laws.Verdict.{stop, stop-left, pass, pass_left}
 use Rattle.designs.proofs.Laws.Passed.{admits}
 use Rattle.datafits.specs.Calls.{full_grad_fault, full_grad}
-use borrow.Author.Rules.{rules}
 use Rattle.datafits.proofs.full_grad.Goals as goal
 
 pub full_grad-requires : goal.full_grad-requires

@@ -5,7 +5,6 @@ use Rattle.doubles.proofs.Laws.Choice.{and_both}
 use Rattle.doubles.proofs.Laws.Verdict.{stop-after, pass, pass_after}
 use Rattle.designs.proofs.Laws.Passed.{admits}
 use Rattle.datafits.specs.Calls.{gradient_fault, gradient_call}
-use borrow.Author.Rules.{rules}
 use Rattle.datafits.proofs.gradient_j.Goals as goal
 
 pub gradient_j-requires : goal.gradient_j-requires

@@ -6,7 +6,6 @@ use Rattle.doubles.proofs.Laws.Verdict.{stop, stop-left, pass, pass_left}
 use Rattle.designs.proofs.Laws.Passed.{admits}
 use Rattle.designs.specs.Checks.{preparation_fault}
 use Rattle.datafits.specs.Calls.{initialized}
-use borrow.Author.Rules.{rules}
 use Rattle.datafits.proofs.initialize.Goals as goal
 
 pub initialize-requires : goal.initialize-requires

@@ -4,7 +4,6 @@ use borrow.Author.Tests.{leb-true, ltb-true}
 use Rattle.doubles.proofs.Laws.Verdict.{stop, stop-left, pass, pass_left}
 use Rattle.designs.proofs.Laws.Passed.{admits}
 use Rattle.datafits.specs.Calls.{update_fault, updated}
-use borrow.Author.Rules.{rules}
 use Rattle.datafits.proofs.update_model_fit.Goals as goal
 
 pub column_update-requires : goal.column_update-requires

@@ -4,7 +4,6 @@ use borrow.Author.Tests.{le-leb, lt-leb}
 use Rattle.doubles.specs.Num.{◌and◌}
 use Rattle.doubles.proofs.Laws.Verdict.{stop-after, pass_after}
 use Rattle.datafits.specs.Calls.{value_fault, value_call}
-use borrow.Author.Rules.{rules}
 use Rattle.datafits.proofs.value.Goals as goal
 
 pub returns-then-n-lt1 : goal.returns-then-n-lt1

@@ -1,7 +1,6 @@
 -- `check_early`: the sizes, then the settings. Assumes nothing.
 use mathlib.Core.Path.{◌∙◌}
 use Rattle.definition.specs.Call.{early_fault}
-use borrow.Author.Rules.{rules}
 use Rattle.decisions.proofs.check_early.Goals as goal
 
 pub returns-else-both : goal.returns-else-both

@@ -1,12 +1,11 @@
 -- `check_handed`: the search upward, so far nothing was found. Assumes nothing.
-use mathlib.Core.Path.{◌≡◌, ap, ◌∙◌}
+use mathlib.Core.Path.{ap, ◌∙◌}
 use mathlib.Core.Bool.{not}
-use Prim.Native.Nat.{◌≤◌, ◌-◌}
+use Prim.Native.Nat.{◌-◌}
 use Rattle.doubles.specs.Answer.{none}
 use Rattle.doubles.proofs.Laws.Steps.{steps-none, steps_all}
 use Rattle.designs.specs.Checks.{told}
-use Rattle.designs.specs.Search.{first_of, mark}
-use Rattle.designs.specs.declared.Found.TheVariants.{Nowhere}
+use Rattle.designs.specs.Search.{mark}
 use Rattle.designs.proofs.Laws.Search.{mark_on, mark_here}
 use Rattle.definition.specs.Call.{acceptable_at, handed_fault}
 use borrow.Author.Rules.{rules}

@@ -1,15 +1,10 @@
 -- `check_handed`: the search upward, so far nothing was found. Assumes nothing.
-use mathlib.Core.Path.{◌≡◌, ap, ◌∙◌}
+use mathlib.Core.Path.{◌≡◌}
 use mathlib.Core.Bool.{not}
 use Prim.Native.Nat.{◌≤◌, ◌-◌}
-use Rattle.doubles.specs.Answer.{none}
-use Rattle.doubles.proofs.Laws.Steps.{steps-none, steps_all}
-use Rattle.designs.specs.Checks.{told}
 use Rattle.designs.specs.Search.{first_of, mark}
 use Rattle.designs.specs.declared.Found.TheVariants.{Nowhere}
-use Rattle.designs.proofs.Laws.Search.{mark_on, mark_here}
-use Rattle.definition.specs.Call.{acceptable_at, handed_fault}
-use borrow.Author.Rules.{rules}
+use Rattle.definition.specs.Call.{acceptable_at}
 use Rattle.decisions.proofs.check_handed.Given as goal
 
 abbrev pub invariant-loop-j : goal.invariant-loop-j

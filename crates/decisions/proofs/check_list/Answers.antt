@@ -1,7 +1,6 @@
 -- `check_list`: 2 at 7, or nothing. Assumes nothing.
 use mathlib.Core.Path.{◌∙◌}
 use Rattle.definition.specs.Walk.{list_fault}
-use borrow.Author.Rules.{rules}
 use Rattle.decisions.proofs.check_list.Goals as goal
 
 pub returns-then-list_in_range : goal.returns-then-list_in_range

@@ -4,7 +4,6 @@ use borrow.Author.Tests.{le-leb, lt-leb}
 use Rattle.definition.specs.Call.{settings_fault}
 use Rattle.definition.specs.declared.Settings.{Settings}
 use Rattle.definition.proofs.Laws.Settings.{from-epochs, from_start, from-depth, from-tolerance}
-use borrow.Author.Rules.{rules}
 use Rattle.decisions.proofs.check_settings.Goals as goal
 use Rattle.decisions.proofs.check_settings.Goals.{Else-settings-gt1000, Else-settings-gt100000, Then-depth_in_range, Then-start_in_range}
 

@@ -1,6 +1,5 @@
 -- `depth_in_range`: the depth is looked at only with extrapolation on. Assumes nothing.
 use Rattle.definition.specs.Call.{depth_legal}
-use borrow.Author.Rules.{rules}
 use Rattle.decisions.proofs.depth_in_range.Goals as goal
 
 pub returns-then-settings : goal.returns-then-settings

@@ -1,7 +1,6 @@
 -- `is_acceptable`: the tests in their turn. Assumes nothing.
 use Rattle.doubles.specs.Num.{◌and◌}
 use Rattle.definition.specs.Call.{acceptable}
-use borrow.Author.Rules.{rules}
 use Rattle.decisions.proofs.is_acceptable.Goals as goal
 
 pub returns-else-is_usable_at : goal.returns-else-is_usable_at

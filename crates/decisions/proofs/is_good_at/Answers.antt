@@ -2,7 +2,6 @@
 use borrow.Author.Tests.{eq-eqb, ne_eqb}
 use Rattle.doubles.specs.Num.{◌and◌, ◌or◌}
 use Rattle.definition.specs.Walk.{good_at}
-use borrow.Author.Rules.{rules}
 use Rattle.decisions.proofs.is_good_at.Goals as goal
 
 pub returns-else-alpha_in_range : goal.returns-else-alpha_in_range

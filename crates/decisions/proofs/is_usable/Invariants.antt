@@ -1,11 +1,9 @@
 -- `is_usable`: the invariant is that the columns passed are usable. Assumes nothing.
-use mathlib.Core.Path.{◌≡◌, sym, ◌∙◌}
+use mathlib.Core.Path.{◌≡◌}
 use mathlib.Core.Bool.{true}
 use Prim.Native.Nat.{◌≤◌, ◌-◌}
 use Rattle.doubles.specs.Steps.{all}
-use Rattle.doubles.proofs.Laws.Steps.{steps-none, steps_all, all_more, all_broken}
-use borrow.Author.Rules.{rules}
-use Rattle.definition.specs.Preparation.{usable_at, all_usable}
+use Rattle.definition.specs.Preparation.{usable_at}
 use Rattle.decisions.proofs.is_usable.Given as goal
 
 abbrev pub invariant-loop-j : goal.invariant-loop-j

@@ -1,7 +1,6 @@
 -- `is_usable_at`: the tests in their turn. Assumes nothing.
 use Rattle.doubles.specs.Num.{◌and◌, ◌or◌}
 use Rattle.definition.specs.Preparation.{usable}
-use borrow.Author.Rules.{rules}
 use Rattle.decisions.proofs.is_usable_at.Goals as goal
 
 pub returns-else-is_finite : goal.returns-else-is_finite

@@ -1,6 +1,5 @@
 -- `start_in_range`: both bounds. Assumes nothing.
 use Rattle.definition.specs.Call.{start_legal}
-use borrow.Author.Rules.{rules}
 use Rattle.decisions.proofs.start_in_range.Goals as goal
 
 pub returns : goal.returns

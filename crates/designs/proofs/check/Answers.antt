@@ -1,6 +1,5 @@
 -- `check` is `admit` with targets and no lent buffer. Assumes nothing.
 use Rattle.designs.specs.Checks.{check_call}
-use borrow.Author.Rules.{rules}
 use Rattle.designs.proofs.check.Goals as goal
 
 pub returns : goal.returns

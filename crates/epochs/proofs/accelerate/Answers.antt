@@ -5,7 +5,6 @@ use mathlib.Core.List.{[]}
 use Prim.Native.Nat.{◌≤◌}
 use native.Mathlib.Omega.{arith}
 use native.Mathlib.Nat.{le_refl}
-use borrow.Author.Rules.{rules}
 use Rattle.epochs.proofs.accelerate.Goals as goal
 use Rattle.epochs.proofs.accelerate.Goals.{After-anderson_accel-taken}
 

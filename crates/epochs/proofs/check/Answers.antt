@@ -2,7 +2,6 @@
 use Rattle.epochs.proofs.Laws.Epochs.{checked-bad, checked_stops, checked_goes}
 use mathlib.Core.Path.{refl, sym, ap, ◌∙◌}
 use Rattle.visits.specs.Inner.Reading.{worst_of}
-use borrow.Author.Rules.{rules}
 use Rattle.epochs.proofs.check.Goals as goal
 
 pub returns-then-is_enough : goal.returns-then-is_enough

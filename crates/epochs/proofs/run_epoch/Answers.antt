@@ -5,7 +5,6 @@ use Rattle.epochs.specs.Inner.Reading.{Ready}
 use Rattle.designs.specs.Given.{given}
 use mathlib.Core.Path.{refl}
 use native.Mathlib.Omega.{arith}
-use borrow.Author.Rules.{rules}
 use Rattle.epochs.proofs.run_epoch.Goals as goal
 use Rattle.epochs.proofs.run_epoch.Goals.{After-accelerate-after, After-cd_epoch}
 

@@ -3,9 +3,8 @@ use Prim.Native.Nat.{◌≤◌, ◌-◌}
 use native.Mathlib.Omega.{arith}
 use borrow.Author.Rules.{rules}
 use Rattle.definition.proofs.Laws.Settings.{few-epochs}
-use Rattle.designs.specs.Given.{given}
 use Rattle.epochs.proofs.Laws.Ready.{ready_still}
-use Rattle.epochs.proofs.Laws.Reached.{Reached, reached-none, reached-more, reached-stopped, reached-bad, reached-all}
+use Rattle.epochs.proofs.Laws.Reached.{reached-none, reached-more, reached-stopped, reached-bad, reached-all}
 use mathlib.Core.Path.{◌≡◌, ◌∙◌}
 use lib.ListN.{length}
 use Rattle.epochs.proofs.run_epochs.Goals as goal

@@ -1,13 +1,7 @@
 -- `run_epochs`: the invariant is what the epochs so far have led to; an epoch that stops or breaks off leaves the loop. Assumes nothing.
 use Prim.Native.Nat.{◌≤◌, ◌-◌}
-use native.Mathlib.Omega.{arith}
-use borrow.Author.Rules.{rules}
-use Rattle.definition.proofs.Laws.Settings.{few-epochs}
 use Rattle.designs.specs.Given.{given}
-use Rattle.epochs.proofs.Laws.Ready.{ready_still}
-use Rattle.epochs.proofs.Laws.Reached.{Reached, reached-none, reached-more, reached-stopped, reached-bad, reached-all}
-use mathlib.Core.Path.{◌≡◌, ◌∙◌}
-use lib.ListN.{length}
+use Rattle.epochs.proofs.Laws.Reached.{Reached}
 use Rattle.epochs.proofs.run_epochs.Given as goal
 
 abbrev pub invariant-loop-e : goal.invariant-loop-e

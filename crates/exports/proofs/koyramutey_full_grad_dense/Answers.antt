@@ -1,5 +1,4 @@
 -- `koyramutey_full_grad_dense`: the call with a dense shape, and its verdict as two numbers. Assumes nothing.
-use borrow.Author.Rules.{rules}
 use Rattle.exports.proofs.koyramutey_full_grad_dense.Goals as goal
 
 pub returns : goal.returns

@@ -1,5 +1,4 @@
 -- `koyramutey_penalty_value`: the value of the penalty that the code stands for, told as numbers. Assumes nothing.
-use borrow.Author.Rules.{rules}
 use Rattle.exports.proofs.koyramutey_penalty_value.Goals as goal
 
 pub returns : goal.returns

@@ -1,5 +1,4 @@
 -- `koyramutey_penalty_violation`: the violation of the penalty that the code stands for, told as numbers. Assumes nothing.
-use borrow.Author.Rules.{rules}
 use Rattle.exports.proofs.koyramutey_penalty_violation.Goals as goal
 
 pub returns : goal.returns

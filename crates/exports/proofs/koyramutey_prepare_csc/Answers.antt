@@ -1,5 +1,4 @@
 -- `koyramutey_prepare_csc`: the preparation with a CSC shape, and its verdict as two numbers. Assumes nothing.
-use borrow.Author.Rules.{rules}
 use Rattle.exports.proofs.koyramutey_prepare_csc.Goals as goal
 
 pub returns : goal.returns

@@ -1,6 +1,5 @@
 -- `koyramutey_solve_csc`: the solve with the shape and the settings that the numbers stand for, and its answer in numbers. Assumes nothing.
 use Rattle.plain_numbers.proofs.Laws.Codes.{called}
-use borrow.Author.Rules.{rules}
 use Rattle.exports.proofs.koyramutey_solve_csc.Goals as goal
 
 pub returns : goal.returns

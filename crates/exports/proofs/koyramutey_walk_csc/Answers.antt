@@ -1,6 +1,5 @@
 -- `koyramutey_walk_csc`: the walk with the shape and the settings that the numbers stand for, and its answer in numbers. Assumes nothing.
 use Rattle.plain_numbers.proofs.Laws.Codes.{walked}
-use borrow.Author.Rules.{rules}
 use Rattle.exports.proofs.koyramutey_walk_csc.Goals as goal
 
 pub returns : goal.returns

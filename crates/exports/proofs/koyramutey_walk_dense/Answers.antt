@@ -1,6 +1,5 @@
 -- `koyramutey_walk_dense`: the walk with the shape and the settings that the numbers stand for, and its answer in numbers. Assumes nothing.
 use Rattle.plain_numbers.proofs.Laws.Codes.{walked}
-use borrow.Author.Rules.{rules}
 use Rattle.exports.proofs.koyramutey_walk_dense.Goals as goal
 
 pub returns : goal.returns

@@ -1,5 +1,4 @@
 -- `koyramutey_working_set`: the call's answer, told as numbers. Assumes nothing.
-use borrow.Author.Rules.{rules}
 use Rattle.exports.proofs.koyramutey_working_set.Goals as goal
 
 pub returns : goal.returns

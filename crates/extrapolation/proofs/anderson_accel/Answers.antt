@@ -10,7 +10,6 @@ use Rattle.extrapolation.proofs.Laws.Tries.{not_last, ready_again}
 use Prim.Native.Nat.{◌-◌}
 use Rattle.extrapolation.proofs.Laws.Step.{row-left, step-tried}
 use borrow.Rule.Slice.PartMut.{put_mid, same_len_mid}
-use borrow.Author.Rules.{rules}
 use Rattle.extrapolation.proofs.anderson_accel.Goals as goal
 use Rattle.extrapolation.proofs.anderson_accel.Goals.{After-keep}
 

@@ -1,6 +1,5 @@
 -- `choose`: the candidate's fit is copied, or the weights are. Assumes nothing.
 use Rattle.extrapolation.specs.Inner.Places.{chosen_by}
-use borrow.Author.Rules.{rules}
 use Rattle.extrapolation.proofs.choose.Goals as goal
 
 pub returns-then-is_better : goal.returns-then-is_better

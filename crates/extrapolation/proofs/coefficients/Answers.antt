@@ -1,14 +1,11 @@
 -- `coefficients`: the invariant is the quotients written so far, and behind them zeros. Assumes nothing.
-use mathlib.Core.Path.{◌≡◌, refl}
-use Prim.Native.Nat.{◌≤◌, ◌-◌}
-use lib.ListN.{length, drop}
+use mathlib.Core.Path.{refl}
+use Prim.Native.Nat.{◌-◌}
 use native.Mathlib.Omega.{arith}
 use Rattle.doubles.specs.Steps.{tab}
 use Rattle.doubles.proofs.Laws.Steps.{tab-none, tab-more}
 use Rattle.definition.specs.Extrapolation.{coefficients}
 use Rattle.history.proofs.Laws.System.{filled}
-use mathlib.Core.List.{◌++◌}
-use Rattle.doubles.specs.Num.{◌⊘◌, at}
 use borrow.Author.Rules.{rules}
 use Rattle.extrapolation.proofs.coefficients.Goals as goal
 

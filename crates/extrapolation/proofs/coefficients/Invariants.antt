@@ -1,15 +1,10 @@
 -- `coefficients`: the invariant is the quotients written so far, and behind them zeros. Assumes nothing.
-use mathlib.Core.Path.{◌≡◌, refl}
+use mathlib.Core.Path.{◌≡◌}
 use Prim.Native.Nat.{◌≤◌, ◌-◌}
 use lib.ListN.{length, drop}
-use native.Mathlib.Omega.{arith}
 use Rattle.doubles.specs.Steps.{tab}
-use Rattle.doubles.proofs.Laws.Steps.{tab-none, tab-more}
-use Rattle.definition.specs.Extrapolation.{coefficients}
-use Rattle.history.proofs.Laws.System.{filled}
 use mathlib.Core.List.{◌++◌}
 use Rattle.doubles.specs.Num.{◌⊘◌, at}
-use borrow.Author.Rules.{rules}
 use Rattle.extrapolation.proofs.coefficients.Given as goal
 
 abbrev pub invariant-loop-k : goal.invariant-loop-k

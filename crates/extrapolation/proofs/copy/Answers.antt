@@ -1,11 +1,8 @@
 -- `copy`: the invariant is what is copied so far, and behind it what was there; a table of a list's own places is the list. Assumes nothing.
-use mathlib.Core.Path.{◌≡◌, refl, ◌∙◌}
-use Prim.Native.Nat.{◌≤◌, ◌-◌}
-use lib.ListN.{length, drop}
-use Rattle.doubles.specs.Num.{at}
+use mathlib.Core.Path.{refl, ◌∙◌}
+use Prim.Native.Nat.{◌-◌}
 use Rattle.doubles.specs.Steps.{tab}
 use Rattle.doubles.proofs.Laws.Steps.{tab-none, tab-more, tab-all}
-use mathlib.Core.List.{◌++◌}
 use Rattle.doubles.proofs.Laws.Parts.{tab_own}
 use borrow.Author.Rules.{rules}
 use Rattle.extrapolation.proofs.copy.Goals as goal

@@ -1,13 +1,10 @@
 -- `copy`: the invariant is what is copied so far, and behind it what was there; a table of a list's own places is the list. Assumes nothing.
-use mathlib.Core.Path.{◌≡◌, refl, ◌∙◌}
+use mathlib.Core.Path.{◌≡◌}
 use Prim.Native.Nat.{◌≤◌, ◌-◌}
 use lib.ListN.{length, drop}
 use Rattle.doubles.specs.Num.{at}
 use Rattle.doubles.specs.Steps.{tab}
-use Rattle.doubles.proofs.Laws.Steps.{tab-none, tab-more, tab-all}
 use mathlib.Core.List.{◌++◌}
-use Rattle.doubles.proofs.Laws.Parts.{tab_own}
-use borrow.Author.Rules.{rules}
 use Rattle.extrapolation.proofs.copy.Given as goal
 
 abbrev pub invariant-loop-i : goal.invariant-loop-i

@@ -5,7 +5,6 @@ use lib.ListN.{take, drop}
 use Rattle.extrapolation.specs.Inner.Places.{kept_in}
 use Rattle.extrapolation.proofs.Laws.Scratch.{kept_read}
 use Rattle.extrapolation.proofs.Laws.Tries.{from-regular, from_singular}
-use borrow.Author.Rules.{rules}
 use Rattle.extrapolation.proofs.extrapolate.Goals as goal
 use Rattle.extrapolation.proofs.extrapolate.Goals.{After-lay_out-at}
 

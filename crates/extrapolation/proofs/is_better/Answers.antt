@@ -1,7 +1,6 @@
 -- `is_better`: one test after the other. Assumes nothing.
 use Rattle.doubles.specs.Num.{◌and◌}
 use Rattle.definition.specs.Extrapolation.{all_finite}
-use borrow.Author.Rules.{rules}
 use Rattle.extrapolation.proofs.is_better.Goals as goal
 
 pub returns-else-objective-before : goal.returns-else-objective-before

@@ -3,7 +3,6 @@ use native.Mathlib.Omega.{arith}
 use mathlib.Core.Path.{refl}
 use native.Mathlib.Numerals.{add-one}
 use Rattle.extrapolation.proofs.Laws.Scratch.{places_small, rows_small}
-use borrow.Author.Rules.{rules}
 use Rattle.extrapolation.proofs.lay_out.Goals as goal
 
 pub overflow_mul-old-2 : goal.overflow_mul-old-2

@@ -1,6 +1,5 @@
 -- `objective`: datafit and penalty. Assumes nothing.
 use Rattle.definition.specs.Extrapolation.{objective_of}
-use borrow.Author.Rules.{rules}
 use Rattle.extrapolation.proofs.objective.Goals as goal
 
 pub returns : goal.returns

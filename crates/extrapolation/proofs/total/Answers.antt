@@ -1,8 +1,5 @@
 -- `total`: the invariant is the sum over the places passed. Assumes nothing.
-use mathlib.Core.Path.{◌≡◌}
-use Prim.Native.Nat.{◌≤◌, ◌-◌}
-use Rattle.doubles.specs.Num.{at}
-use Rattle.doubles.specs.Steps.{sum}
+use Prim.Native.Nat.{◌-◌}
 use Rattle.doubles.proofs.Laws.Steps.{steps-none, steps-more, steps_all}
 use borrow.Author.Rules.{rules}
 use Rattle.extrapolation.proofs.total.Goals as goal

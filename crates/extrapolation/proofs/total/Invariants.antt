@@ -3,8 +3,6 @@ use mathlib.Core.Path.{◌≡◌}
 use Prim.Native.Nat.{◌≤◌, ◌-◌}
 use Rattle.doubles.specs.Num.{at}
 use Rattle.doubles.specs.Steps.{sum}
-use Rattle.doubles.proofs.Laws.Steps.{steps-none, steps-more, steps_all}
-use borrow.Author.Rules.{rules}
 use Rattle.extrapolation.proofs.total.Given as goal
 
 abbrev pub invariant-loop-k : goal.invariant-loop-k

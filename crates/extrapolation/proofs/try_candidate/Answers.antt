@@ -3,7 +3,6 @@ use Prim.Native.Nat.{◌+◌, ◌*◌, ◌≤◌}
 use native.Mathlib.Omega.{arith}
 use Rattle.extrapolation.proofs.Laws.Scratch.{places_small}
 use Rattle.extrapolation.proofs.Laws.Step.{choose_asks, chosen_here}
-use borrow.Author.Rules.{rules}
 use Rattle.extrapolation.proofs.try_candidate.Goals as goal
 use Rattle.extrapolation.proofs.try_candidate.Goals.{After-make_candidate}
 

@@ -1,7 +1,7 @@
 -- `write_candidate`: the invariant is the definition's loop over the working set's places passed. Assumes nothing.
-use mathlib.Core.Path.{◌≡◌, ◌∙◌}
-use Prim.Native.Nat.{◌≤◌, ◌<◌, ◌-◌}
-use lib.ListN.{length, get_or, set}
+use mathlib.Core.Path.{◌∙◌}
+use Prim.Native.Nat.{◌<◌, ◌-◌}
+use lib.ListN.{set}
 use native.Mathlib.Omega.{arith}
 use Rattle.doubles.specs.Steps.{steps}
 use Rattle.doubles.proofs.Laws.Steps.{steps-none, steps-turn}

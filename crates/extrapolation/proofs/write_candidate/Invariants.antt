@@ -1,13 +1,9 @@
 -- `write_candidate`: the invariant is the definition's loop over the working set's places passed. Assumes nothing.
-use mathlib.Core.Path.{◌≡◌, ◌∙◌}
-use Prim.Native.Nat.{◌≤◌, ◌<◌, ◌-◌}
+use mathlib.Core.Path.{◌≡◌}
+use Prim.Native.Nat.{◌≤◌, ◌-◌}
 use lib.ListN.{length, get_or, set}
-use native.Mathlib.Omega.{arith}
 use Rattle.doubles.specs.Steps.{steps}
-use Rattle.doubles.proofs.Laws.Steps.{steps-none, steps-turn}
 use Rattle.definition.specs.Extrapolation.{combined}
-use Rattle.extrapolation.proofs.Laws.Tries.{candidate-done}
-use borrow.Author.Rules.{rules}
 use Rattle.extrapolation.proofs.write_candidate.Given as goal
 
 abbrev pub invariant-loop-i : goal.invariant-loop-i

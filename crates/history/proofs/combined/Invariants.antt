@@ -3,9 +3,6 @@ use mathlib.Core.Path.{◌≡◌}
 use Prim.Native.Nat.{◌≤◌, ◌-◌, ◌+◌, ◌*◌}
 use Rattle.doubles.specs.Num.{◌⊗◌, at}
 use Rattle.doubles.specs.Steps.{sum}
-use Rattle.doubles.proofs.Laws.Steps.{steps-none, steps-turn, steps_all}
-use Rattle.definition.specs.Extrapolation.{combined}
-use borrow.Author.Rules.{rules}
 use Rattle.history.proofs.combined.Given as goal
 
 abbrev pub invariant-loop-k : goal.invariant-loop-k

@@ -1,6 +1,5 @@
 -- `difference`: a place of two rows, one behind the other. Assumes nothing.
 use native.Mathlib.Numerals.{add-one}
-use borrow.Author.Rules.{rules}
 use Rattle.history.proofs.difference.Goals as goal
 
 pub returns : goal.returns

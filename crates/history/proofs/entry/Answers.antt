@@ -1,10 +1,7 @@
 -- `entry`: the invariant is the sum over the places passed. Assumes nothing.
-use mathlib.Core.Path.{◌≡◌}
-use Prim.Native.Nat.{◌≤◌, ◌-◌}
-use Rattle.doubles.specs.Num.{◌⊗◌}
-use Rattle.doubles.specs.Steps.{sum}
+use Prim.Native.Nat.{◌-◌}
 use Rattle.doubles.proofs.Laws.Steps.{steps-none, steps-turn, steps_all}
-use Rattle.definition.specs.Extrapolation.{U, entry}
+use Rattle.definition.specs.Extrapolation.{entry}
 use borrow.Author.Rules.{rules}
 use Rattle.history.proofs.entry.Goals as goal
 

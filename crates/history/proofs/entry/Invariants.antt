@@ -3,9 +3,7 @@ use mathlib.Core.Path.{◌≡◌}
 use Prim.Native.Nat.{◌≤◌, ◌-◌}
 use Rattle.doubles.specs.Num.{◌⊗◌}
 use Rattle.doubles.specs.Steps.{sum}
-use Rattle.doubles.proofs.Laws.Steps.{steps-none, steps-turn, steps_all}
-use Rattle.definition.specs.Extrapolation.{U, entry}
-use borrow.Author.Rules.{rules}
+use Rattle.definition.specs.Extrapolation.{U}
 use Rattle.history.proofs.entry.Given as goal
 
 abbrev pub invariant-loop-place : goal.invariant-loop-place

@@ -1,10 +1,9 @@
 -- `keep`: the invariant is the working set's weights gathered so far, put where the row begins. Assumes nothing.
-use mathlib.Core.Path.{◌≡◌, ap, ◌∙◌}
-use Prim.Native.Nat.{◌≤◌, ◌<◌, ◌-◌}
-use lib.ListN.{length, get_or}
+use mathlib.Core.Path.{ap, ◌∙◌}
+use Prim.Native.Nat.{◌<◌, ◌-◌}
+use lib.ListN.{length}
 use native.Mathlib.Omega.{arith}
 use Rattle.doubles.specs.Num.{at}
-use Rattle.doubles.specs.Steps.{tab}
 use lib.Ieee.{nan}
 use Rattle.doubles.specs.Buffer.{put}
 use Rattle.doubles.proofs.Laws.Buffer.{put-none, put-more, put_all}

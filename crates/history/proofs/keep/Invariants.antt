@@ -1,14 +1,10 @@
 -- `keep`: the invariant is the working set's weights gathered so far, put where the row begins. Assumes nothing.
-use mathlib.Core.Path.{◌≡◌, ap, ◌∙◌}
-use Prim.Native.Nat.{◌≤◌, ◌<◌, ◌-◌}
+use mathlib.Core.Path.{◌≡◌}
+use Prim.Native.Nat.{◌≤◌, ◌-◌}
 use lib.ListN.{length, get_or}
-use native.Mathlib.Omega.{arith}
 use Rattle.doubles.specs.Num.{at}
 use Rattle.doubles.specs.Steps.{tab}
-use lib.Ieee.{nan}
 use Rattle.doubles.specs.Buffer.{put}
-use Rattle.doubles.proofs.Laws.Buffer.{put-none, put-more, put_all}
-use borrow.Author.Rules.{rules}
 use Rattle.history.proofs.keep.Given as goal
 
 abbrev pub invariant-loop-i : goal.invariant-loop-i

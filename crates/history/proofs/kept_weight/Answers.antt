@@ -1,7 +1,6 @@
 -- `kept_weight`: one place of what is kept, inside. Assumes nothing.
 use native.Mathlib.Omega.{arith}
 use Rattle.history.proofs.Laws.System.{kept-place}
-use borrow.Author.Rules.{rules}
 use Rattle.history.proofs.kept_weight.Goals as goal
 
 pub overflow_mul-result : goal.overflow_mul-result

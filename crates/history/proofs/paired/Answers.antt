@@ -1,6 +1,5 @@
 -- `paired`: below the diagonal the entry stands in a row above, the other way round. Assumes nothing.
 use Rattle.history.proofs.Laws.System.{from-above}
-use borrow.Author.Rules.{rules}
 use Rattle.history.proofs.paired.Goals as goal
 
 pub returns-then-l-k : goal.returns-then-l-k

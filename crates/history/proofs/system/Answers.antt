@@ -1,13 +1,11 @@
 -- `system`: the invariant is the rows written so far, and behind them rows of zeros. Assumes nothing.
-use mathlib.Core.Path.{◌≡◌, refl}
-use Prim.Native.Nat.{◌≤◌, ◌-◌}
-use lib.ListN.{length, drop}
+use mathlib.Core.Path.{refl}
+use Prim.Native.Nat.{◌-◌}
 use native.Mathlib.Omega.{arith}
 use Rattle.doubles.specs.Steps.{tab, steps}
 use Rattle.doubles.proofs.Laws.Steps.{tab-none, tab-more}
 use Rattle.definition.specs.Extrapolation.{system_row, system}
 use Rattle.history.proofs.Laws.System.{filled, rows_above}
-use mathlib.Core.List.{◌++◌}
 use borrow.Author.Rules.{rules}
 use Rattle.history.proofs.system.Goals as goal
 

@@ -1,13 +1,11 @@
 -- `system_row`: the invariant is the entries written so far, and behind them zeros; then the right-hand side. Assumes nothing.
-use mathlib.Core.Path.{◌≡◌, refl}
-use Prim.Native.Nat.{◌≤◌, ◌-◌}
-use lib.ListN.{length, drop}
+use mathlib.Core.Path.{refl}
+use Prim.Native.Nat.{◌-◌}
 use native.Mathlib.Omega.{arith}
 use Rattle.doubles.specs.Steps.{tab}
 use Rattle.doubles.proofs.Laws.Steps.{tab-none, tab-more}
-use Rattle.definition.specs.Extrapolation.{entry, system_row}
+use Rattle.definition.specs.Extrapolation.{system_row}
 use Rattle.history.proofs.Laws.System.{row_done}
-use mathlib.Core.List.{◌++◌}
 use borrow.Author.Rules.{rules}
 use Rattle.history.proofs.system_row.Goals as goal
 

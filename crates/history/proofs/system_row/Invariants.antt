@@ -1,14 +1,10 @@
 -- `system_row`: the invariant is the entries written so far, and behind them zeros; then the right-hand side. Assumes nothing.
-use mathlib.Core.Path.{◌≡◌, refl}
+use mathlib.Core.Path.{◌≡◌}
 use Prim.Native.Nat.{◌≤◌, ◌-◌}
 use lib.ListN.{length, drop}
-use native.Mathlib.Omega.{arith}
 use Rattle.doubles.specs.Steps.{tab}
-use Rattle.doubles.proofs.Laws.Steps.{tab-none, tab-more}
-use Rattle.definition.specs.Extrapolation.{entry, system_row}
-use Rattle.history.proofs.Laws.System.{row_done}
+use Rattle.definition.specs.Extrapolation.{entry}
 use mathlib.Core.List.{◌++◌}
-use borrow.Author.Rules.{rules}
 use Rattle.history.proofs.system_row.Given as goal
 
 abbrev pub invariant-loop-l : goal.invariant-loop-l

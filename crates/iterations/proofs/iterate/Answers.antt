@@ -16,7 +16,6 @@ use Rattle.epochs.specs.declared.InnerStep.{InnerStep}
 use Rattle.epochs.specs.Inner.Reading.{counts_of}
 use Rattle.iterations.specs.Inner.Reading.{Grown}
 use Rattle.iterations.specs.declared.Totals.{Totals}
-use borrow.Author.Rules.{rules}
 use Rattle.iterations.proofs.iterate.Goals as goal
 use Rattle.iterations.proofs.iterate.Goals.{After-construct_ws-many, After-run_epochs, After-start_size-start}
 

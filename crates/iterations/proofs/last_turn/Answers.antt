@@ -8,7 +8,6 @@ use Rattle.epochs.proofs.Laws.Ready.{room_for}
 use Rattle.iterations.proofs.Laws.Turns.{turn-bad, last_stops}
 use Rattle.visits.specs.Inner.Reading.{measured_of}
 use Rattle.visits.specs.declared.Worst.{Worst}
-use borrow.Author.Rules.{rules}
 use Rattle.iterations.proofs.last_turn.Goals as goal
 use Rattle.iterations.proofs.last_turn.Goals.{After-opt_cond_violation}
 

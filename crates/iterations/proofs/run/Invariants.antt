@@ -1,15 +1,9 @@
 -- `run`: the invariant is what the turns so far have led to; a turn that stops or breaks off leaves the loop, and the last turn ends it. Assumes nothing.
-use mathlib.Core.Path.{◌≡◌, refl, ◌∙◌}
+use mathlib.Core.Path.{◌≡◌}
 use Prim.Native.Nat.{◌-◌, ◌≤◌}
-use native.Mathlib.Nat.{le_antisymm}
-use native.Mathlib.Omega.{arith}
 use lib.ListN.{length}
-use borrow.Author.Rules.{rules}
 use Rattle.designs.specs.Given.{given}
-use Rattle.definition.proofs.Laws.Settings.{few-iterations}
-use Rattle.epochs.proofs.Laws.Ready.{ready_still}
-use Rattle.iterations.proofs.Laws.Turns.{totalled_most}
-use Rattle.iterations.proofs.Laws.Reached.{Turned, turned_none, turned_more, turned-stopped, turned-bad, turned-last}
+use Rattle.iterations.proofs.Laws.Reached.{Turned}
 use Rattle.iterations.proofs.run.Given as goal
 
 abbrev pub invariant-loop-t : goal.invariant-loop-t

@@ -3,7 +3,6 @@ use mathlib.Core.Path.{◌∙◌}
 use Rattle.definition.specs.Call.{solved}
 use Rattle.epochs.proofs.Laws.Ready.{ready_still}
 use Rattle.iterations.proofs.Laws.Cleared.{cleared-kept}
-use borrow.Author.Rules.{rules}
 use Rattle.iterations.proofs.start_run.Goals as goal
 
 pub run-requires : goal.run-requires

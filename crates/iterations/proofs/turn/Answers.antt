@@ -9,7 +9,6 @@ use Rattle.iterations.proofs.Laws.Turns.{violations-read, long_as_before, found-
 use Rattle.iterations.proofs.Laws.Turns.{turn-bad, turn_stops, turn_goes_on, grown-none, grown-same}
 use Rattle.visits.specs.Inner.Reading.{measured_of}
 use Rattle.visits.specs.declared.Worst.{Worst}
-use borrow.Author.Rules.{rules}
 use Rattle.iterations.proofs.turn.Goals as goal
 use Rattle.iterations.proofs.turn.Goals.{After-opt_cond_violation}
 

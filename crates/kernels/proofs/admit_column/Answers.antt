@@ -2,7 +2,6 @@
 use mathlib.Core.Path.{◌∙◌}
 use borrow.Author.Tests.{le-leb, lt-leb}
 use Rattle.kernels.specs.Kernels.{kernel_fault}
-use borrow.Author.Rules.{rules}
 use Rattle.kernels.proofs.admit_column.Goals as goal
 
 pub returns-then-n-places : goal.returns-then-n-places

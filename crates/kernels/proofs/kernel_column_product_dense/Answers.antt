@@ -2,7 +2,6 @@
 use Rattle.doubles.proofs.Laws.Verdict.{pass}
 use Rattle.kernels.specs.Kernels.{product_left}
 use Rattle.kernels.proofs.Laws.Kernels.{ready, product_told, passed_told, refused-told}
-use borrow.Author.Rules.{rules}
 use Rattle.kernels.proofs.kernel_column_product_dense.Goals as goal
 
 pub column_dot-requires : goal.column_dot-requires

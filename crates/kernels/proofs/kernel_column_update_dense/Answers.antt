@@ -2,7 +2,6 @@
 use Rattle.doubles.proofs.Laws.Verdict.{pass}
 use Rattle.kernels.specs.Kernels.{update_left}
 use Rattle.kernels.proofs.Laws.Kernels.{ready, update_told, passed_told, refused-told}
-use borrow.Author.Rules.{rules}
 use Rattle.kernels.proofs.kernel_column_update_dense.Goals as goal
 
 pub column_update-requires : goal.column_update-requires

@@ -1,10 +1,8 @@
 -- `add_squares`: each running sum gains its square of the row, upward. Assumes nothing.
-use mathlib.Core.Path.{◌≡◌, refl}
-use Prim.Native.Nat.{◌≤◌, ◌<◌, ◌-◌, ◌+◌}
-use mathlib.Core.List.{◌++◌}
+use mathlib.Core.Path.{refl}
+use Prim.Native.Nat.{◌<◌, ◌-◌}
 use lib.Ieee.{nan}
-use lib.ListN.{length, drop}
-use Rattle.doubles.specs.Num.{◌⊕◌, ◌⊗◌, at}
+use lib.ListN.{length}
 use Rattle.doubles.specs.Steps.{tab}
 use Rattle.doubles.proofs.Laws.Steps.{tab-none, tab_here, tab-more, tab-all}
 use native.Mathlib.Omega.{arith}

@@ -1,14 +1,10 @@
 -- `add_squares`: each running sum gains its square of the row, upward. Assumes nothing.
-use mathlib.Core.Path.{◌≡◌, refl}
-use Prim.Native.Nat.{◌≤◌, ◌<◌, ◌-◌, ◌+◌}
+use mathlib.Core.Path.{◌≡◌}
+use Prim.Native.Nat.{◌≤◌, ◌-◌, ◌+◌}
 use mathlib.Core.List.{◌++◌}
-use lib.Ieee.{nan}
 use lib.ListN.{length, drop}
 use Rattle.doubles.specs.Num.{◌⊕◌, ◌⊗◌, at}
 use Rattle.doubles.specs.Steps.{tab}
-use Rattle.doubles.proofs.Laws.Steps.{tab-none, tab_here, tab-more, tab-all}
-use native.Mathlib.Omega.{arith}
-use borrow.Author.Rules.{rules}
 use Rattle.passes.proofs.add_squares.Given as goal
 
 abbrev pub invariant-loop-j : goal.invariant-loop-j

@@ -3,7 +3,6 @@ use mathlib.Core.Path.{refl}
 use Rattle.designs.proofs.Laws.Layouts.{held_dense, as_dense, samples, features}
 use Rattle.columns.proofs.Laws.ByRows.{dense-sized, room-sized}
 use Rattle.passes.proofs.Laws.Rows.{as_dots}
-use borrow.Author.Rules.{rules}
 use Rattle.passes.proofs.all_dots.Goals as goal
 
 pub dense_dots-requires : goal.dense_dots-requires

@@ -3,7 +3,6 @@ use mathlib.Core.Path.{refl}
 use Rattle.designs.proofs.Laws.Layouts.{held_dense, held_csc, as_dense, as_csc}
 use Rattle.columns.proofs.Laws.ByRows.{room-sized}
 use Rattle.passes.proofs.Laws.Rows.{tab-sized, squares-sized}
-use borrow.Author.Rules.{rules}
 use Rattle.passes.proofs.all_squares.Goals as goal
 
 pub dense_squares-requires : goal.dense_squares-requires

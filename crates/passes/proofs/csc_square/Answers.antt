@@ -1,9 +1,5 @@
 -- `csc_square`: the invariant is the sum over the stored entries passed. Assumes nothing.
-use mathlib.Core.Path.{◌≡◌}
-use Prim.Native.Nat.{◌≤◌, ◌-◌, ◌+◌}
-use lib.ListN.{length}
-use Rattle.doubles.specs.Num.{◌⊗◌, at}
-use Rattle.doubles.specs.Steps.{sum as total}
+use Prim.Native.Nat.{◌-◌}
 use Rattle.doubles.proofs.Laws.Steps.{steps-none, steps-more, steps_all}
 use Rattle.designs.specs.Design.{squares, csc}
 use Rattle.columns.proofs.Laws.Stored.{stored_asked, stored-end}

@@ -4,10 +4,6 @@ use Prim.Native.Nat.{◌≤◌, ◌-◌, ◌+◌}
 use lib.ListN.{length}
 use Rattle.doubles.specs.Num.{◌⊗◌, at}
 use Rattle.doubles.specs.Steps.{sum as total}
-use Rattle.doubles.proofs.Laws.Steps.{steps-none, steps-more, steps_all}
-use Rattle.designs.specs.Design.{squares, csc}
-use Rattle.columns.proofs.Laws.Stored.{stored_asked, stored-end}
-use borrow.Author.Rules.{rules}
 use Rattle.passes.proofs.csc_square.Given as goal
 
 abbrev pub invariant-loop-k : goal.invariant-loop-k

@@ -1,11 +1,9 @@
 -- `csc_squares`: the invariant is the sums done, and behind them what was there. Assumes nothing.
-use mathlib.Core.Path.{◌≡◌, refl}
-use Prim.Native.Nat.{◌≤◌, ◌-◌}
-use mathlib.Core.List.{◌++◌}
-use lib.ListN.{length, drop}
+use mathlib.Core.Path.{refl}
+use Prim.Native.Nat.{◌-◌}
 use Rattle.doubles.specs.Steps.{tab}
 use Rattle.doubles.proofs.Laws.Steps.{tab-none, tab-more, tab-all}
-use Rattle.designs.specs.Design.{csc, squares}
+use Rattle.designs.specs.Design.{csc}
 use borrow.Author.Rules.{rules}
 use Rattle.passes.proofs.csc_squares.Goals as goal
 

@@ -1,12 +1,10 @@
 -- `csc_squares`: the invariant is the sums done, and behind them what was there. Assumes nothing.
-use mathlib.Core.Path.{◌≡◌, refl}
+use mathlib.Core.Path.{◌≡◌}
 use Prim.Native.Nat.{◌≤◌, ◌-◌}
 use mathlib.Core.List.{◌++◌}
 use lib.ListN.{length, drop}
 use Rattle.doubles.specs.Steps.{tab}
-use Rattle.doubles.proofs.Laws.Steps.{tab-none, tab-more, tab-all}
 use Rattle.designs.specs.Design.{csc, squares}
-use borrow.Author.Rules.{rules}
 use Rattle.passes.proofs.csc_squares.Given as goal
 
 abbrev pub invariant-loop-j : goal.invariant-loop-j

@@ -1,5 +1,4 @@
 -- `dense_dots`: the invariant is the running sums over the rows passed. Assumes nothing.
-use mathlib.Core.Path.{◌≡◌}
 use Prim.Native.Nat.{ℕ, ◌≤◌, ◌-◌, ◌+◌, ◌*◌}
 use lib.Ieee.{Float}
 use lib.ListN.{length}

@@ -1,14 +1,9 @@
 -- `dense_dots`: the invariant is the running sums over the rows passed. Assumes nothing.
 use mathlib.Core.Path.{◌≡◌}
-use Prim.Native.Nat.{ℕ, ◌≤◌, ◌-◌, ◌+◌, ◌*◌}
-use lib.Ieee.{Float}
+use Prim.Native.Nat.{◌≤◌, ◌-◌, ◌+◌, ◌*◌}
 use lib.ListN.{length}
 use Rattle.doubles.specs.Num.{◌⊗◌, at}
-use Rattle.designs.proofs.Laws.Layouts.{row_inside}
-use Rattle.designs.specs.Design.{dense, dot, dots}
-use Rattle.passes.proofs.Laws.Rows.{sums, sums_none, sums_turn, sums_all}
-use native.Mathlib.Omega.{arith}
-use borrow.Author.Rules.{rules}
+use Rattle.passes.proofs.Laws.Rows.{sums}
 use Rattle.passes.proofs.dense_dots.Given as goal
 
 abbrev pub invariant-loop-i : goal.invariant-loop-i

@@ -1,11 +1,9 @@
 -- `dots_by_column`: the invariant is the products done, and behind them what was there. Assumes nothing.
-use mathlib.Core.Path.{◌≡◌, refl}
-use Prim.Native.Nat.{◌≤◌, ◌-◌}
-use mathlib.Core.List.{◌++◌}
-use lib.ListN.{length, drop}
+use mathlib.Core.Path.{refl}
+use Prim.Native.Nat.{◌-◌}
 use Rattle.doubles.specs.Steps.{tab}
 use Rattle.doubles.proofs.Laws.Steps.{tab-none, tab-more, tab-all}
-use Rattle.designs.specs.Design.{design, dot}
+use Rattle.designs.specs.Design.{dot}
 use borrow.Author.Rules.{rules}
 use Rattle.passes.proofs.dots_by_column.Goals as goal
 

@@ -1,9 +1,7 @@
 -- `largest_abs`: the invariant is the largest of those passed. Assumes nothing.
-use mathlib.Core.Path.{◌≡◌, ◌∙◌}
-use Prim.Native.Nat.{◌≤◌, ◌-◌}
-use lib.ListN.{length}
-use Rattle.doubles.specs.Num.{#0, at, abs}
-use Rattle.doubles.specs.Steps.{largest_from}
+use mathlib.Core.Path.{◌∙◌}
+use Prim.Native.Nat.{◌-◌}
+use Rattle.doubles.specs.Num.{abs}
 use Rattle.doubles.proofs.Laws.Steps.{steps-none, steps-turn, steps_all}
 use borrow.Author.Rules.{rules}
 use Rattle.passes.proofs.largest_abs.Goals as goal

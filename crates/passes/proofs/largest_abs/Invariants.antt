@@ -1,11 +1,9 @@
 -- `largest_abs`: the invariant is the largest of those passed. Assumes nothing.
-use mathlib.Core.Path.{◌≡◌, ◌∙◌}
+use mathlib.Core.Path.{◌≡◌}
 use Prim.Native.Nat.{◌≤◌, ◌-◌}
 use lib.ListN.{length}
 use Rattle.doubles.specs.Num.{#0, at, abs}
 use Rattle.doubles.specs.Steps.{largest_from}
-use Rattle.doubles.proofs.Laws.Steps.{steps-none, steps-turn, steps_all}
-use borrow.Author.Rules.{rules}
 use Rattle.passes.proofs.largest_abs.Given as goal
 
 abbrev pub invariant-loop-j : goal.invariant-loop-j

@@ -4,7 +4,6 @@ use native.Mathlib.Omega.{arith}
 use lib.Seq.{length-take-le}
 use Rattle.designs.proofs.Laws.Layouts.{samples, features}
 use Rattle.passes.proofs.Laws.Rows.{halves}
-use borrow.Author.Rules.{rules}
 use Rattle.passes.proofs.prepare.Goals as goal
 
 pub slice_bounds-constants-end-2 : goal.slice_bounds-constants-end-2

@@ -1,6 +1,5 @@
 -- `prox_of`: the prox of the penalty that the code stands for. Assumes nothing.
 use Rattle.plain_numbers.specs.Codes.{coded_prox}
-use borrow.Author.Rules.{rules}
 use Rattle.plain_numbers.proofs.prox_of.Goals as goal
 
 pub returns : goal.returns

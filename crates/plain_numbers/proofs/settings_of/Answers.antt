@@ -1,6 +1,5 @@
 -- `settings_of`: each number in its place. Assumes nothing.
 use Rattle.plain_numbers.specs.Codes.{coded_settings}
-use borrow.Author.Rules.{rules}
 use Rattle.plain_numbers.proofs.settings_of.Goals as goal
 
 pub returns : goal.returns

@@ -1,6 +1,5 @@
 -- `tell`: by the answer's case. Assumes nothing.
 use Rattle.plain_numbers.proofs.Laws.Codes.{refused-told, done-told}
-use borrow.Author.Rules.{rules}
 use Rattle.plain_numbers.proofs.tell.Goals as goal
 
 pub returns-in-Refused : goal.returns-in-Refused

@@ -1,6 +1,5 @@
 -- `tell_number`: by the answer's case. Assumes nothing.
 use mathlib.Core.Path.{refl}
-use borrow.Author.Rules.{rules}
 use Rattle.plain_numbers.proofs.tell_number.Goals as goal
 
 pub returns-in-Refused : goal.returns-in-Refused

@@ -1,6 +1,5 @@
 -- `tell_size`: by the answer's case. Assumes nothing.
 use mathlib.Core.Path.{refl}
-use borrow.Author.Rules.{rules}
 use Rattle.plain_numbers.proofs.tell_size.Goals as goal
 
 pub returns-in-Refused : goal.returns-in-Refused

@@ -2,7 +2,6 @@
 use Rattle.definition.specs.declared.Usable.{Usable}
 use Rattle.plain_numbers.specs.Codes.{report, usable}
 use Rattle.plain_numbers.proofs.Laws.Codes.{walk-refused-told, walk-found-told}
-use borrow.Author.Rules.{rules}
 use Rattle.plain_numbers.proofs.tell_walk.Goals as goal
 use Rattle.plain_numbers.proofs.tell_walk.Goals.{Start}
 

@@ -1,6 +1,5 @@
 -- `prepare`: `initialize` tests and fills, and then the columns are tested. Assumes nothing.
 use Rattle.preparation.proofs.Laws.Settled.{left-refused, small, still_room, left-settled}
-use borrow.Author.Rules.{rules}
 use Rattle.preparation.proofs.prepare.Goals as goal
 
 pub settle-requires : goal.settle-requires

@@ -3,7 +3,6 @@ use mathlib.Core.Path.{refl, sym, ap, ◌∙◌}
 use lib.Seq.{length-take-le}
 use Rattle.doubles.specs.Steps.{zeros}
 use Rattle.doubles.proofs.Laws.Buffer.{put_front}
-use borrow.Author.Rules.{rules}
 use Rattle.preparation.proofs.settle.Goals as goal
 
 pub slice_bounds-is_usable-end-2 : goal.slice_bounds-is_usable-end-2

@@ -2,7 +2,6 @@
 use mathlib.Core.Path.{sym}
 use lib.Seq.{length-take-le}
 use Rattle.doubles.proofs.Laws.Buffer.{put_front}
-use borrow.Author.Rules.{rules}
 use Rattle.quadratic.proofs.compute_extrapolated_fit.Goals as goal
 
 pub slice_bounds-extrapolated_fit-end : goal.slice_bounds-extrapolated_fit-end

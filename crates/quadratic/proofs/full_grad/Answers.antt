@@ -2,7 +2,6 @@
 use mathlib.Core.Path.{sym}
 use lib.Seq.{length-take-le}
 use Rattle.doubles.proofs.Laws.Buffer.{put_front}
-use borrow.Author.Rules.{rules}
 use Rattle.quadratic.proofs.full_grad.Goals as goal
 
 pub slice_bounds-all_gradients-end-2 : goal.slice_bounds-all_gradients-end-2

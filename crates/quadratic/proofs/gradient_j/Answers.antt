@@ -2,7 +2,6 @@
 use mathlib.Core.Path.{◌∙◌}
 use Rattle.designs.specs.Design.{gradient}
 use Rattle.designs.proofs.Laws.Layouts.{samples}
-use borrow.Author.Rules.{rules}
 use Rattle.quadratic.proofs.gradient_j.Goals as goal
 
 pub returns : goal.returns

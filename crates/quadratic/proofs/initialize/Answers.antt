@@ -3,7 +3,6 @@ use mathlib.Core.Path.{sym}
 use Prim.Native.Nat.{◌+◌}
 use lib.Seq.{length-take-le}
 use Rattle.doubles.proofs.Laws.Buffer.{put_front}
-use borrow.Author.Rules.{rules}
 use Rattle.quadratic.proofs.initialize.Goals as goal
 
 pub slice_bounds-prepare-end-2 : goal.slice_bounds-prepare-end-2

@@ -2,7 +2,6 @@
 use mathlib.Core.Path.{sym}
 use lib.Seq.{length-take-le}
 use Rattle.doubles.proofs.Laws.Buffer.{put_front}
-use borrow.Author.Rules.{rules}
 use Rattle.quadratic.proofs.largest_of.Goals as goal
 
 pub slice_bounds-alpha_max-end-2 : goal.slice_bounds-alpha_max-end-2

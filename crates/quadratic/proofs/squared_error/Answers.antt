@@ -1,9 +1,5 @@
 -- `squared_error`: the invariant is the sum over the samples passed. Assumes nothing.
-use mathlib.Core.Path.{◌≡◌}
-use Prim.Native.Nat.{◌≤◌, ◌-◌}
-use lib.ListN.{length}
-use Rattle.doubles.specs.Num.{◌⊖◌, ◌⊗◌, at}
-use Rattle.doubles.specs.Steps.{sum as total}
+use Prim.Native.Nat.{◌-◌}
 use Rattle.doubles.proofs.Laws.Steps.{steps-none, steps-more, steps_all}
 use Rattle.designs.specs.Design.{squared_error}
 use borrow.Author.Rules.{rules}

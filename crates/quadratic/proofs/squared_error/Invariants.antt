@@ -4,9 +4,6 @@ use Prim.Native.Nat.{◌≤◌, ◌-◌}
 use lib.ListN.{length}
 use Rattle.doubles.specs.Num.{◌⊖◌, ◌⊗◌, at}
 use Rattle.doubles.specs.Steps.{sum as total}
-use Rattle.doubles.proofs.Laws.Steps.{steps-none, steps-more, steps_all}
-use Rattle.designs.specs.Design.{squared_error}
-use borrow.Author.Rules.{rules}
 use Rattle.quadratic.proofs.squared_error.Given as goal
 
 abbrev pub invariant-loop-i : goal.invariant-loop-i

@@ -1,7 +1,6 @@
 -- `value`: the squared error over 2n. Assumes nothing.
 use Rattle.designs.specs.Design.{datafit}
 use Rattle.designs.proofs.Laws.Layouts.{counted_twice}
-use borrow.Author.Rules.{rules}
 use Rattle.quadratic.proofs.value.Goals as goal
 
 pub int_to_float-result : goal.int_to_float-result

@@ -2,7 +2,6 @@
 use mathlib.Core.Path.{refl}
 use Rattle.doubles.specs.Num.{◌and◌, ◌or◌}
 use Rattle.selection.specs.Inner.Heap.{ahead}
-use borrow.Author.Rules.{rules}
 use Rattle.selection.proofs.ahead.Goals as goal
 
 pub returns : goal.returns

@@ -2,7 +2,6 @@
 use mathlib.Core.Path.{sym, ◌∙◌}
 use Rattle.selection.proofs.Laws.Order.{features}
 use Rattle.selection.proofs.Laws.Heap.{goes_down, goes_nowhere, goes_no_further}
-use borrow.Author.Rules.{rules}
 use Rattle.selection.proofs.below.Goals as goal
 
 pub ahead-requires : goal.ahead-requires

@@ -1,7 +1,6 @@
 -- `heapify`: the invariant is that the places from k on are a heap. Assumes nothing.
 use Rattle.selection.specs.Inner.Heap.{ahead, Number}
-use Rattle.selection.proofs.Laws.Heap.{HeapAt, heaped_none, heaped_next, heaped_good, heaped_turn, heaped_all}
-use borrow.Author.Rules.{rules}
+use Rattle.selection.proofs.Laws.Heap.{HeapAt}
 use Rattle.selection.proofs.heapify.Given as goal
 
 abbrev pub invariant-loop-k : goal.invariant-loop-k

@@ -1,6 +1,5 @@
 -- `keep`: by the weight. Assumes nothing.
 use mathlib.Core.Path.{refl}
-use borrow.Author.Rules.{rules}
 use Rattle.selection.proofs.keep.Goals as goal
 
 pub returns-then-w : goal.returns-then-w

@@ -1,7 +1,7 @@
 -- `keep_first`: the invariant is that the places filled hold the features with zero weight passed. Assumes nothing.
 use Prim.Native.Nat.{◌-◌, ◌<◌}
 use lib.ListN.{length}
-use Rattle.selection.proofs.Laws.Select.{FirstAt, first-none, first-inside, first-turn, first-all}
+use Rattle.selection.proofs.Laws.Select.{first-none, first-inside, first-turn, first-all}
 use borrow.Author.Rules.{rules}
 use native.Mathlib.Omega.{arith}
 use Rattle.selection.proofs.keep_first.Goals as goal

@@ -3,7 +3,6 @@ use Rattle.doubles.specs.Num.{◌and◌}
 use Rattle.doubles.proofs.Laws.Counts.{same_self}
 use Rattle.selection.specs.Inner.Heap.{offered}
 use Rattle.selection.proofs.Laws.Heap.{heap_later}
-use borrow.Author.Rules.{rules}
 use native.Mathlib.Omega.{arith}
 use Rattle.selection.proofs.offer.Goals as goal
 

@@ -1,8 +1,6 @@
 -- `offer_rest`: the invariant is that what is left over of the features passed stands behind what is kept. Assumes nothing.
 use Prim.Native.Nat.{◌-◌}
-use Rattle.selection.proofs.Laws.Select.{RestAt, rest-none, rest-number, rest-turn, rest_all}
-use borrow.Author.Rules.{rules}
-use native.Mathlib.Omega.{arith}
+use Rattle.selection.proofs.Laws.Select.{RestAt}
 use Rattle.selection.proofs.offer_rest.Given as goal
 
 abbrev pub invariant-loop-j : goal.invariant-loop-j

@@ -4,7 +4,6 @@ use Prim.Native.Nat.{◌-◌}
 use lib.ListN.{length}
 use Rattle.selection.proofs.Laws.Order.{features}
 use Rattle.selection.proofs.Laws.Heap.{pop-inside, pop-end, pop-few, pop-long, pop-known, pop_heap, pop-same, pop_front, pop-ends, front_long}
-use borrow.Author.Rules.{rules}
 use native.Mathlib.Omega.{arith}
 use Rattle.selection.proofs.pop.Goals as goal
 

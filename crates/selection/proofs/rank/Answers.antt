@@ -4,7 +4,6 @@ use Prim.Native.Nat.{◌≤◌}
 use lib.ListN.{length}
 use Rattle.doubles.proofs.Laws.Counts.{same_trans}
 use Rattle.selection.proofs.Laws.Select.{room-few, room-left, first-known, chosen-known, chosen-first, chosen_none}
-use borrow.Author.Rules.{rules}
 use native.Mathlib.Omega.{arith}
 use Rattle.selection.proofs.rank.Goals as goal
 use Rattle.selection.proofs.rank.Goals.{Start}

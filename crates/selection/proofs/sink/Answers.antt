@@ -1,8 +1,6 @@
 -- `sink`: the invariant is that all but the place of x is a heap, and that x may stand below what is above it. Assumes nothing.
 use Prim.Native.Nat.{◌-◌}
-use lib.ListN.{length}
-use Rattle.selection.specs.Inner.Heap.{ahead, Number}
-use Rattle.selection.proofs.Laws.Heap.{SinkAt, sunk_none, sunk_inside, sunk_few, sunk_less, sunk_known, sunk_turn, sunk_all}
+use Rattle.selection.proofs.Laws.Heap.{sunk_none, sunk_inside, sunk_few, sunk_less, sunk_known, sunk_turn, sunk_all}
 use borrow.Author.Rules.{rules}
 use Rattle.selection.proofs.sink.Goals as goal
 

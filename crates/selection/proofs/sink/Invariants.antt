@@ -2,8 +2,7 @@
 use Prim.Native.Nat.{◌-◌}
 use lib.ListN.{length}
 use Rattle.selection.specs.Inner.Heap.{ahead, Number}
-use Rattle.selection.proofs.Laws.Heap.{SinkAt, sunk_none, sunk_inside, sunk_few, sunk_less, sunk_known, sunk_turn, sunk_all}
-use borrow.Author.Rules.{rules}
+use Rattle.selection.proofs.Laws.Heap.{SinkAt}
 use Rattle.selection.proofs.sink.Given as goal
 
 abbrev pub invariant-loop-k : goal.invariant-loop-k

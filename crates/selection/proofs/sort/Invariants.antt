@@ -1,9 +1,6 @@
 -- `sort`: the invariant is that the first c places are a heap, and what lies behind them is in order and behind them. Assumes nothing.
-use mathlib.Core.Path.{sym}
 use Rattle.selection.specs.Inner.Heap.{ahead, Number}
-use Rattle.selection.proofs.Laws.Heap.{SortAt, sorted_none, sorted_known, sorted_turn, sorted_all, front_c}
-use borrow.Author.Rules.{rules}
-use native.Mathlib.Omega.{arith}
+use Rattle.selection.proofs.Laws.Heap.{SortAt}
 use Rattle.selection.proofs.sort.Given as goal
 
 abbrev pub invariant-loop-c : goal.invariant-loop-c

@@ -1,5 +1,4 @@
 -- `check_numbers`: where there is room, there are 2p numbers to look at. Assumes nothing.
-use borrow.Author.Rules.{rules}
 use Rattle.solvers.proofs.check_numbers.Goals as goal
 
 pub check_handed-requires : goal.check_handed-requires

@@ -2,7 +2,6 @@
 use Rattle.doubles.proofs.Laws.Choice.{and_both}
 use Rattle.designs.proofs.Laws.Passed.{Sized, sized}
 use Rattle.solvers.proofs.Laws.Calls.{early_refused, early_passed, numbers-room, all_tested}
-use borrow.Author.Rules.{rules}
 use Rattle.solvers.proofs.check_solve.Goals as goal
 use Rattle.solvers.proofs.check_solve.Goals.{In_default}
 

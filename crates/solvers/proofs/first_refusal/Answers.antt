@@ -1,5 +1,4 @@
 -- `first_refusal`: by what the first tests found. Assumes nothing.
-use borrow.Author.Rules.{rules}
 use Rattle.solvers.proofs.first_refusal.Goals as goal
 
 pub returns-in-Refused : goal.returns-in-Refused

@@ -1,6 +1,5 @@
 -- `solve`: the tests, and where they find nothing, the run. Assumes nothing.
 use Rattle.solvers.proofs.Laws.Calls.{left-refused, tests_passed, left-run}
-use borrow.Author.Rules.{rules}
 use Rattle.solvers.proofs.solve.Goals as goal
 
 pub solve_tested-requires : goal.solve_tested-requires

@@ -9,7 +9,6 @@ use Rattle.doubles.proofs.Laws.Buffer.{put_front}
 use Rattle.designs.specs.Given.{Given, given}
 use Rattle.definition.specs.Call.{Lent, lent, scratch_room, solved, task_of}
 use Rattle.solvers.proofs.Laws.Calls.{buffers-left, Rooms, rooms, narrow, run_ready}
-use borrow.Author.Rules.{rules}
 use Rattle.solvers.proofs.solve_tested.Goals as goal
 use Rattle.solvers.proofs.solve_tested.Goals.{After-scratch_room-room, Start}
 

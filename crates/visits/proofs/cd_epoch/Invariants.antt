@@ -1,13 +1,9 @@
 -- `cd_epoch`: the invariant is that all visits so far went well and led to these weights and this fit. Assumes nothing.
-use borrow.Author.Rules.{rules}
 use mathlib.Core.Path.{◌≡◌}
-use Prim.Native.Nat.{◌≤◌, ◌<◌, ◌-◌}
+use Prim.Native.Nat.{◌≤◌, ◌-◌}
 use lib.ListN.{length, get_or}
-use native.Mathlib.Omega.{arith}
 use Rattle.doubles.specs.Steps.{going, upto}
-use Rattle.doubles.proofs.Laws.Steps.{steps-none, steps_all}
-use Rattle.definition.specs.Epoch.{Task, Point, task, visit, visits}
-use Rattle.visits.proofs.Laws.Visits.{visits-more, visits_broken}
+use Rattle.definition.specs.Epoch.{task, visit}
 use Rattle.visits.proofs.cd_epoch.Given as goal
 
 abbrev pub invariant-loop-i : goal.invariant-loop-i

@@ -1,17 +1,15 @@
 -- `finish_violations`: the invariant is that all features passed had finite numbers, their largest violation, and the violations in the gradients'
 -- places. Assumes nothing.
 use borrow.Author.Rules.{rules}
-use mathlib.Core.Path.{◌≡◌, refl}
-use mathlib.Core.List.{◌++◌}
+use mathlib.Core.Path.{refl}
 use Prim.Native.Nat.{◌≤◌, ◌<◌, ◌-◌}
 use native.Mathlib.Omega.{arith}
 use lib.Ieee.{nan}
-use lib.ListN.{length, drop}
+use lib.ListN.{length}
 use Rattle.doubles.specs.Num.{at}
 use Rattle.doubles.specs.Steps.{tab}
 use Rattle.doubles.proofs.Laws.Steps.{tab-none, tab_here, tab-more, tab-all}
-use Rattle.visits.specs.Inner.Reading.{violation_there}
-use Rattle.visits.proofs.Laws.Violations.{Passed, passed_none, passed_more, passed_value, of_place, finished-bad, finished-all}
+use Rattle.visits.proofs.Laws.Violations.{passed_none, passed_more, passed_value, of_place, finished-bad, finished-all}
 use Rattle.visits.proofs.finish_violations.Goals as goal
 
 pub loop-j-init : goal.loop-j-init

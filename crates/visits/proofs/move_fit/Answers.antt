@@ -1,6 +1,5 @@
 -- `move_fit`: the fit stays where the difference is zero, and is moved and looked at otherwise. Assumes nothing.
 use Rattle.visits.proofs.Laws.Visits.{stays, moves}
-use borrow.Author.Rules.{rules}
 use Rattle.visits.proofs.move_fit.Goals as goal
 
 pub returns-then-d : goal.returns-then-d

@@ -2,7 +2,6 @@
 use mathlib.Core.Path.{ap, ◌∙◌}
 use Rattle.visits.specs.Inner.Reading.{finished}
 use Rattle.visits.proofs.Laws.Violations.{finished-measured}
-use borrow.Author.Rules.{rules}
 use Rattle.visits.proofs.opt_cond_violation.Goals as goal
 
 pub returns : goal.returns

@@ -1,7 +1,6 @@
 -- `violation_at`: one test after the other. Assumes nothing.
 use Rattle.doubles.specs.Num.{◌and◌}
 use Rattle.visits.specs.Inner.Reading.{violation_at}
-use borrow.Author.Rules.{rules}
 use Rattle.visits.proofs.violation_at.Goals as goal
 
 pub returns-else-is_finite : goal.returns-else-is_finite

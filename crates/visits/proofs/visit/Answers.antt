@@ -1,7 +1,6 @@
 -- `visit`: one branch after the other. Assumes nothing.
 use Rattle.definition.specs.Epoch.{Point, task, gradient_of}
 use Rattle.visits.proofs.Laws.Visits.{visit_skips, bad-gradient, bad-weight, visit_moves}
-use borrow.Author.Rules.{rules}
 use Rattle.visits.proofs.visit.Goals as goal
 
 pub returns-then-lipschitz : goal.returns-then-lipschitz

@@ -1,12 +1,11 @@
 -- `ws_violation`: the invariant is that all features passed had finite numbers, and their largest violation. Assumes nothing.
 use borrow.Author.Rules.{rules}
-use Prim.Native.Nat.{◌≤◌, ◌<◌, ◌-◌}
-use lib.ListN.{length, get_or}
+use Prim.Native.Nat.{◌<◌, ◌-◌}
 use native.Mathlib.Omega.{arith}
 use Rattle.doubles.specs.Num.{at}
-use Rattle.definition.specs.Epoch.{Task, task, gradient_of, violation_of, known, known_in, worst_in}
+use Rattle.definition.specs.Epoch.{Task, task, violation_of, known, known_in, worst_in}
 use Rattle.visits.specs.Inner.Reading.{measured_in}
-use Rattle.visits.proofs.Laws.Violations.{Passed, of_feature, passed_none, passed_more, passed_bad, passed_all}
+use Rattle.visits.proofs.Laws.Violations.{of_feature, passed_none, passed_more, passed_bad, passed_all}
 use Rattle.visits.proofs.ws_violation.Goals as goal
 use Rattle.visits.proofs.ws_violation.Goals.{After-feature_of-feature, Start}
 

@@ -3,7 +3,6 @@ use Rattle.doubles.proofs.Laws.Choice.{and_both}
 use Rattle.designs.proofs.Laws.Passed.{Sized, sized}
 use Rattle.solvers.proofs.Laws.Calls.{early_passed}
 use Rattle.walks.proofs.Laws.Tests.{refused_early, refused_list, tested_rest}
-use borrow.Author.Rules.{rules}
 use Rattle.walks.proofs.check_walk.Goals as goal
 use Rattle.walks.proofs.check_walk.Goals.{In_default}
 

@@ -1,11 +1,8 @@
 -- `first_usable`: the invariant is that none was usable so far, and that the buffers are as long as they were. Assumes nothing.
 use mathlib.Core.Path.{◌≡◌, refl, sym, ap, ◌∙◌}
-use Prim.Native.Nat.{◌≤◌, ◌-◌}
+use Prim.Native.Nat.{◌-◌}
 use lib.ListN.{length}
-use Rattle.designs.specs.Given.{given}
-use Rattle.designs.specs.declared.Found.TheVariants.{Nowhere}
-use Rattle.definition.specs.Walk.{first_usable, walk_of}
-use Rattle.walks.specs.Inner.Fits.{fit_with}
+use Rattle.definition.specs.Walk.{walk_of}
 use Rattle.definition.proofs.Laws.Walk.{list_few}
 use Rattle.walks.proofs.Laws.Fits.{tried_alpha, ready_each, none_yet, still_none, found, found_none}
 use borrow.Author.Rules.{rules}

@@ -1,6 +1,5 @@
 -- `judge`: a fit that was answered, and then whether it is wanted. Assumes nothing.
 use mathlib.Core.Path.{◌∙◌}
-use borrow.Author.Rules.{rules}
 use Rattle.walks.proofs.judge.Goals as goal
 
 pub returns-then-is_wanted : goal.returns-then-is_wanted

@@ -1,6 +1,5 @@
 -- `try_fit`: the run, and what is said of it. Assumes nothing.
 use Rattle.walks.proofs.Laws.Fits.{tried}
-use borrow.Author.Rules.{rules}
 use Rattle.walks.proofs.try_fit.Goals as goal
 
 pub returns : goal.returns

@@ -5,7 +5,6 @@ use lib.ListN.{length}
 use Rattle.designs.specs.Given.{given}
 use Rattle.definition.proofs.Laws.Prepared.{prepared-long}
 use Rattle.walks.proofs.Laws.Fits.{fits-usable, none-prepared}
-use borrow.Author.Rules.{rules}
 use Rattle.walks.proofs.try_prepared.Goals as goal
 use Rattle.walks.proofs.try_prepared.Goals.{Start}
 

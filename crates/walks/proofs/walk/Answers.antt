@@ -2,7 +2,6 @@
 use mathlib.Core.Path.{sym}
 use Rattle.doubles.proofs.Laws.Verdict.{pass}
 use Rattle.walks.proofs.Laws.Fits.{left-refused}
-use borrow.Author.Rules.{rules}
 use Rattle.walks.proofs.walk.Goals as goal
 
 pub walk_tested-requires : goal.walk_tested-requires

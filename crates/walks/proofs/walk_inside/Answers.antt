@@ -7,7 +7,6 @@ use Rattle.designs.specs.Given.{Given, given}
 use Rattle.definition.specs.Walk.{walk_of}
 use Rattle.definition.proofs.Laws.Walk.{same-room}
 use Rattle.walks.proofs.Laws.Fits.{cleared, answer-found}
-use borrow.Author.Rules.{rules}
 use Rattle.walks.proofs.walk_inside.Goals as goal
 use Rattle.walks.proofs.walk_inside.Goals.{After-clear, Start}
 

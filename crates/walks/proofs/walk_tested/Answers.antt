@@ -16,7 +16,6 @@ use Rattle.solvers.proofs.Laws.Calls.{buffers-left, Rooms, rooms, narrow, run_re
 use Rattle.walks.specs.Inner.Fits.{end_of, fit_passed}
 use Rattle.definition.proofs.Laws.Walk.{passed, solve-zero}
 use Rattle.walks.proofs.Laws.Fits.{left-walk}
-use borrow.Author.Rules.{rules}
 use Rattle.walks.proofs.walk_tested.Goals as goal
 use Rattle.walks.proofs.walk_tested.Goals.{After-scratch_room-room, Start}
 

@@ -17,7 +17,6 @@ use Rattle.doubles.specs.Answer.{refused, none}
 use Rattle.definition.specs.WorkingSet.{size, working_set, padded}
 use Rattle.worksets.specs.Call.{ws_fault, ws_call, ws_left}
 use Rattle.worksets.proofs.Laws.Numbers.{numbers_of}
-use borrow.Author.Rules.{rules}
 use Rattle.worksets.proofs.construct_ws_from_kkt.Goals as goal
 
 -- what the first two tests say once they passed

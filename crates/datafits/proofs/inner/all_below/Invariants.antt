@@ -4,12 +4,7 @@ use Prim.Native.Nat.{◌≤◌, ◌-◌}
 use mathlib.Core.Bool.{true}
 use lib.Dec.{ltb}
 use lib.ListN.{length, get_or}
-use borrow.Author.Tests.{lt-ltb, le-ltb}
 use Rattle.doubles.specs.Steps.{all}
-use Rattle.doubles.proofs.Laws.Steps.{steps-none, steps_all, all_more, all_broken}
-use Rattle.datafits.specs.Calls.{all_below}
-use native.Mathlib.Omega.{arith}
-use borrow.Author.Rules.{rules}
 use Rattle.datafits.proofs.inner.all_below.Given as goal
 
 abbrev pub invariant-loop-k : goal.invariant-loop-k

@@ -5,7 +5,6 @@ use borrow.Author.Tests.{leb-true, eqb-true}
 use Rattle.doubles.proofs.Laws.Verdict.{stop-after, stop-left, pass, pass_after, pass_left}
 use Rattle.designs.proofs.Laws.Passed.{admits}
 use Rattle.datafits.specs.Calls.{alpha_max_fault, alpha_max_call, alpha_max_left}
-use borrow.Author.Rules.{rules}
 use Rattle.datafits.proofs.inner.alpha_max.Goals as goal
 
 pub largest_of-requires : goal.largest_of-requires

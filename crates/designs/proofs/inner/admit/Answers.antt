@@ -2,7 +2,6 @@
 use mathlib.Core.Path.{sym, ◌∙◌}
 use Rattle.doubles.specs.Num.{◌and◌}
 use Rattle.designs.specs.Checks.{admitted}
-use borrow.Author.Rules.{rules}
 use Rattle.designs.proofs.inner.admit.Goals as goal
 
 pub check_sized-requires : goal.check_sized-requires

@@ -3,7 +3,6 @@ use mathlib.Core.Path.{◌≡◌}
 use Rattle.designs.specs.Checks.{lengths, csc_fault, contents}
 use Rattle.designs.proofs.Laws.Passed.{sized, csc-starts, csc-rows}
 use mathlib.Core.Bool.{true}
-use borrow.Author.Rules.{rules}
 use Rattle.designs.proofs.inner.check_contents.Goals as goal
 
 pub check_numbers-requires : goal.check_numbers-requires

@@ -2,7 +2,6 @@
 use mathlib.Core.Path.{◌∙◌}
 use Rattle.designs.specs.Checks.{csc_fault}
 use Rattle.designs.proofs.Laws.Passed.{rising-rows}
-use borrow.Author.Rules.{rules}
 use Rattle.designs.proofs.inner.check_csc.Goals as goal
 
 pub returns-in-At : goal.returns-in-At

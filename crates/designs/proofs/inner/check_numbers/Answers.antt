@@ -1,7 +1,6 @@
 -- `check_numbers`: the search among the targets, then that among the values. Assumes nothing.
 use mathlib.Core.Path.{◌∙◌}
 use Rattle.designs.specs.Checks.{numbers}
-use borrow.Author.Rules.{rules}
 use Rattle.designs.proofs.inner.check_numbers.Goals as goal
 
 pub returns-in-At : goal.returns-in-At

@@ -1,7 +1,6 @@
 -- `check_sized`: the room, then the contents. Assumes nothing.
 use mathlib.Core.Path.{◌∙◌}
 use Rattle.designs.specs.Checks.{sized_fault}
-use borrow.Author.Rules.{rules}
 use Rattle.designs.proofs.inner.check_sized.Goals as goal
 
 pub returns-then-room : goal.returns-then-room

@@ -1,13 +1,9 @@
 -- The search upward in one column: so far nothing was found. Assumes nothing.
 use mathlib.Core.Path.{◌≡◌}
 use Prim.Native.Nat.{◌≤◌, ◌+◌, ◌-◌}
-use lib.ListN.{get_or}
-use borrow.Author.Rules.{rules}
 use Rattle.designs.specs.Search.{first_of, mark}
-use Rattle.designs.proofs.Laws.Search.{mark_on, mark_here}
-use Rattle.doubles.proofs.Laws.Steps.{steps-none, steps_all}
 use Rattle.designs.specs.declared.Found.TheVariants.{Nowhere}
-use Rattle.designs.specs.Checks.{bad_row, bad_column}
+use Rattle.designs.specs.Checks.{bad_row}
 use Rattle.designs.proofs.inner.first_bad_in.Given as goal
 
 abbrev pub invariant-loop-k : goal.invariant-loop-k

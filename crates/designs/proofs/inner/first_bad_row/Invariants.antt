@@ -1,11 +1,8 @@
 -- The search upward over the columns: so far nothing was found. Assumes nothing.
 use mathlib.Core.Path.{◌≡◌}
 use Prim.Native.Nat.{◌≤◌, ◌-◌}
-use borrow.Author.Rules.{rules}
 use Rattle.designs.specs.Search.{first_of}
-use Rattle.designs.proofs.Laws.Search.{first_on, first_here}
-use Rattle.designs.specs.Checks.{bad_column, bad_rows}
-use Rattle.doubles.proofs.Laws.Steps.{steps-none, steps_all}
+use Rattle.designs.specs.Checks.{bad_column}
 use Rattle.designs.specs.declared.Found.TheVariants.{Nowhere}
 use Rattle.designs.proofs.inner.first_bad_row.Given as goal
 

@@ -1,12 +1,9 @@
 -- The search upward: so far nothing was found. Assumes nothing.
-use mathlib.Core.Path.{◌≡◌}
-use Prim.Native.Nat.{◌≤◌, ◌-◌}
-use lib.ListN.{length}
+use Prim.Native.Nat.{◌-◌}
 use borrow.Author.Rules.{rules}
-use Rattle.designs.specs.Search.{first_of, mark}
+use Rattle.designs.specs.Search.{mark}
 use Rattle.designs.proofs.Laws.Search.{mark_on, mark_here}
 use Rattle.doubles.proofs.Laws.Steps.{steps-none, steps_all}
-use Rattle.designs.specs.declared.Found.TheVariants.{Nowhere}
 use Rattle.designs.specs.Checks.{bad_start, bad_starts}
 use Rattle.designs.proofs.inner.first_bad_start.Goals as goal
 

@@ -2,12 +2,9 @@
 use mathlib.Core.Path.{◌≡◌}
 use Prim.Native.Nat.{◌≤◌, ◌-◌}
 use lib.ListN.{length}
-use borrow.Author.Rules.{rules}
 use Rattle.designs.specs.Search.{first_of, mark}
-use Rattle.designs.proofs.Laws.Search.{mark_on, mark_here}
-use Rattle.doubles.proofs.Laws.Steps.{steps-none, steps_all}
 use Rattle.designs.specs.declared.Found.TheVariants.{Nowhere}
-use Rattle.designs.specs.Checks.{bad_start, bad_starts}
+use Rattle.designs.specs.Checks.{bad_start}
 use Rattle.designs.proofs.inner.first_bad_start.Given as goal
 
 abbrev pub invariant-loop-i : goal.invariant-loop-i

@@ -2,7 +2,6 @@
 use native.Mathlib.Omega.{arith}
 use Prim.Native.Nat.{◌+◌, ◌-◌}
 use borrow.Author.Tests.{lt-leb, le-leb, lt-ltb, le-ltb}
-use borrow.Author.Rules.{rules}
 use Rattle.doubles.specs.Num.{◌and◌, ◌or◌}
 use Rattle.designs.specs.Checks.{bad_row}
 use Rattle.designs.proofs.inner.is_bad_row.Goals as goal

@@ -1,7 +1,6 @@
 -- The three faults of a start in their turn. Assumes nothing.
 use native.Mathlib.Omega.{arith}
 use borrow.Author.Tests.{lt-ltb, le-ltb, eq-eqb, ne_eqb}
-use borrow.Author.Rules.{rules}
 use Rattle.doubles.specs.Num.{◌and◌, ◌or◌}
 use Rattle.designs.specs.Checks.{bad_start}
 use Rattle.designs.proofs.inner.is_bad_start.Goals as goal

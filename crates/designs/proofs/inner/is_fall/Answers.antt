@@ -1,6 +1,5 @@
 -- By whether the start is the first. Assumes nothing.
 use borrow.Author.Tests.{eq-eqb, ne_eqb}
-use borrow.Author.Rules.{rules}
 use Rattle.designs.specs.Checks.{falls}
 use Rattle.designs.proofs.inner.is_fall.Goals as goal
 

@@ -1,7 +1,6 @@
 -- `lengths_agree` goes by the layout. Assumes nothing.
 use Rattle.designs.specs.Checks.{lengths}
 use Rattle.designs.proofs.Laws.Layouts.{product_small}
-use borrow.Author.Rules.{rules}
 use Rattle.designs.proofs.inner.lengths_agree.Goals as goal
 
 pub overflow_mul-shape : goal.overflow_mul-shape

@@ -2,7 +2,6 @@
 use borrow.Author.Tests.{lt-leb, le-leb}
 use Rattle.doubles.specs.Num.{◌and◌}
 use Rattle.designs.specs.Checks.{sizes}
-use borrow.Author.Rules.{rules}
 use Rattle.designs.proofs.inner.sizes_agree.Goals as goal
 
 pub returns-then-n-lt1 : goal.returns-then-n-lt1

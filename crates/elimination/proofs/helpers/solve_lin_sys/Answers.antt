@@ -3,7 +3,6 @@ use mathlib.Core.Path.{◌∙◌}
 use borrow.Author.Tests.{lt-ltb, le-ltb}
 use Rattle.doubles.specs.Num.{◌or◌}
 use Rattle.elimination.specs.Elimination.{solution, solve_call}
-use borrow.Author.Rules.{rules}
 use Rattle.elimination.proofs.helpers.solve_lin_sys.Goals as goal
 
 pub returns-then-size-lt1 : goal.returns-then-size-lt1

@@ -1,11 +1,10 @@
 -- `back_substitute`: the invariant is the definition's loop down to pivot i, and ends at pivot 1. Assumes nothing.
 use mathlib.Core.Path.{◌≡◌, ◌∙◌}
-use Prim.Native.Nat.{◌≤◌, ◌-◌}
+use Prim.Native.Nat.{◌-◌}
 use Rattle.doubles.specs.Steps.{downward}
 use Rattle.doubles.proofs.Laws.Steps.{downward-none, downward-more}
-use Rattle.elimination.specs.Elimination.{cleared_above, back_substituted}
+use Rattle.elimination.specs.Elimination.{back_substituted}
 use native.Mathlib.Omega.{arith}
-use borrow.Author.Rules.{rules}
 use Rattle.elimination.proofs.inner.back_substitute.Goals as goal
 
 pub loop-i-init : goal.loop-i-init

@@ -1,11 +1,8 @@
 -- `back_substitute`: the invariant is the definition's loop down to pivot i, and ends at pivot 1. Assumes nothing.
-use mathlib.Core.Path.{◌≡◌, ◌∙◌}
+use mathlib.Core.Path.{◌≡◌}
 use Prim.Native.Nat.{◌≤◌, ◌-◌}
 use Rattle.doubles.specs.Steps.{downward}
-use Rattle.doubles.proofs.Laws.Steps.{downward-none, downward-more}
-use Rattle.elimination.specs.Elimination.{cleared_above, back_substituted}
-use native.Mathlib.Omega.{arith}
-use borrow.Author.Rules.{rules}
+use Rattle.elimination.specs.Elimination.{cleared_above}
 use Rattle.elimination.proofs.inner.back_substitute.Given as goal
 
 abbrev pub invariant-loop-i : goal.invariant-loop-i

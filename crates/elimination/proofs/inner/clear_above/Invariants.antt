@@ -1,11 +1,8 @@
 -- `clear_above`: the invariant is the definition's loop down to row t. Assumes nothing.
-use mathlib.Core.Path.{◌≡◌, ◌∙◌}
+use mathlib.Core.Path.{◌≡◌}
 use Prim.Native.Nat.{◌≤◌, ◌-◌}
 use Rattle.doubles.specs.Steps.{downward}
-use Rattle.doubles.proofs.Laws.Steps.{downward-none, downward-more, downward-all}
-use Rattle.elimination.specs.Elimination.{cleared, cleared_above}
-use native.Mathlib.Omega.{arith}
-use borrow.Author.Rules.{rules}
+use Rattle.elimination.specs.Elimination.{cleared}
 use Rattle.elimination.proofs.inner.clear_above.Given as goal
 
 abbrev pub invariant-loop-t : goal.invariant-loop-t

@@ -1,11 +1,8 @@
 -- `clear_below`: the invariant is the definition's loop up to row t. Assumes nothing.
-use mathlib.Core.Path.{◌≡◌, ◌∙◌}
+use mathlib.Core.Path.{◌≡◌}
 use Prim.Native.Nat.{◌≤◌, ◌-◌, ◌+◌}
 use Rattle.doubles.specs.Steps.{upward}
-use Rattle.doubles.proofs.Laws.Steps.{upward-none, upward-more, upward-all}
-use Rattle.elimination.specs.Elimination.{cleared, cleared_below}
-use native.Mathlib.Omega.{arith}
-use borrow.Author.Rules.{rules}
+use Rattle.elimination.specs.Elimination.{cleared}
 use Rattle.elimination.proofs.inner.clear_below.Given as goal
 
 abbrev pub invariant-loop-t : goal.invariant-loop-t

@@ -1,6 +1,5 @@
 -- `clear_row`: a zero pivot is passed over; otherwise one row is replaced. Assumes nothing.
 use Rattle.elimination.specs.Elimination.{cleared}
-use borrow.Author.Rules.{rules}
 use Rattle.elimination.proofs.inner.clear_row.Goals as goal
 
 pub returns-then-pivot : goal.returns-then-pivot

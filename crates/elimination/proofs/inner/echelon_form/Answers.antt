@@ -1,11 +1,9 @@
 -- `echelon_form`: the invariant is the definition's loop up to pivot i. Assumes nothing.
-use mathlib.Core.Path.{◌≡◌}
-use Prim.Native.Nat.{◌≤◌, ◌-◌}
+use Prim.Native.Nat.{◌-◌}
 use Rattle.doubles.specs.Steps.{steps}
 use Rattle.doubles.proofs.Laws.Steps.{steps-none, steps-turn, steps_all}
-use Rattle.elimination.specs.Elimination.{cleared_below, echelon}
+use Rattle.elimination.specs.Elimination.{echelon}
 use native.Mathlib.Omega.{arith}
-use borrow.Author.Rules.{rules}
 use Rattle.elimination.proofs.inner.echelon_form.Goals as goal
 
 pub overflow_sub-last : goal.overflow_sub-last

@@ -2,10 +2,7 @@
 use mathlib.Core.Path.{◌≡◌}
 use Prim.Native.Nat.{◌≤◌, ◌-◌}
 use Rattle.doubles.specs.Steps.{steps}
-use Rattle.doubles.proofs.Laws.Steps.{steps-none, steps-turn, steps_all}
-use Rattle.elimination.specs.Elimination.{cleared_below, echelon}
-use native.Mathlib.Omega.{arith}
-use borrow.Author.Rules.{rules}
+use Rattle.elimination.specs.Elimination.{cleared_below}
 use Rattle.elimination.proofs.inner.echelon_form.Given as goal
 
 abbrev pub invariant-loop-i : goal.invariant-loop-i

@@ -1,7 +1,6 @@
 -- `eliminate`: one pass after the other. Assumes nothing.
 use mathlib.Core.Path.{◌∙◌}
 use Rattle.elimination.specs.Elimination.{eliminated}
-use borrow.Author.Rules.{rules}
 use Rattle.elimination.proofs.inner.eliminate.Goals as goal
 
 pub returns : goal.returns

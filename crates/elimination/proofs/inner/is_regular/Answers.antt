@@ -1,12 +1,9 @@
 -- `is_regular`: the invariant is that no zero stands on the diagonal before i. Assumes nothing.
-use mathlib.Core.Path.{◌≡◌}
-use Prim.Native.Nat.{◌≤◌, ◌-◌}
-use mathlib.Core.Bool.{true, not}
-use lib.Ieee.{eq}
-use Rattle.doubles.specs.Num.{#0}
+use Prim.Native.Nat.{◌-◌}
+use mathlib.Core.Bool.{true}
 use Rattle.doubles.specs.Steps.{all}
 use Rattle.doubles.proofs.Laws.Steps.{steps-none, steps_all, all_more, all_broken}
-use Rattle.elimination.specs.Elimination.{cell, regular}
+use Rattle.elimination.specs.Elimination.{regular}
 use native.Mathlib.Omega.{arith}
 use Rattle.elimination.proofs.inner.is_regular.Goals as goal
 

@@ -5,9 +5,7 @@ use mathlib.Core.Bool.{true, not}
 use lib.Ieee.{eq}
 use Rattle.doubles.specs.Num.{#0}
 use Rattle.doubles.specs.Steps.{all}
-use Rattle.doubles.proofs.Laws.Steps.{steps-none, steps_all, all_more, all_broken}
-use Rattle.elimination.specs.Elimination.{cell, regular}
-use native.Mathlib.Omega.{arith}
+use Rattle.elimination.specs.Elimination.{cell}
 use Rattle.elimination.proofs.inner.is_regular.Given as goal
 
 abbrev pub invariant-loop-i : goal.invariant-loop-i

@@ -1,11 +1,9 @@
 -- `read_off`: the invariant is the definition's loop up to row i. Assumes nothing.
-use mathlib.Core.Path.{◌≡◌}
-use Prim.Native.Nat.{◌≤◌, ◌-◌}
+use Prim.Native.Nat.{◌-◌}
 use lib.ListN.{set}
-use Rattle.doubles.specs.Num.{◌⊘◌}
 use Rattle.doubles.specs.Steps.{steps}
 use Rattle.doubles.proofs.Laws.Steps.{steps-none, steps-more, steps_all}
-use Rattle.elimination.specs.Elimination.{cell, read_off}
+use Rattle.elimination.specs.Elimination.{read_off}
 use native.Mathlib.Omega.{arith}
 use Rattle.elimination.proofs.inner.read_off.Goals as goal
 

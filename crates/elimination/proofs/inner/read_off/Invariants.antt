@@ -4,9 +4,7 @@ use Prim.Native.Nat.{◌≤◌, ◌-◌}
 use lib.ListN.{set}
 use Rattle.doubles.specs.Num.{◌⊘◌}
 use Rattle.doubles.specs.Steps.{steps}
-use Rattle.doubles.proofs.Laws.Steps.{steps-none, steps-more, steps_all}
-use Rattle.elimination.specs.Elimination.{cell, read_off}
-use native.Mathlib.Omega.{arith}
+use Rattle.elimination.specs.Elimination.{cell}
 use Rattle.elimination.proofs.inner.read_off.Given as goal
 
 abbrev pub invariant-loop-i : goal.invariant-loop-i

@@ -1,7 +1,5 @@
 -- `reduce_row`: the invariant is the definition's loop up to column k. Assumes nothing.
-use mathlib.Core.Path.{◌≡◌}
-use Prim.Native.Nat.{◌≤◌, ◌-◌}
-use Rattle.doubles.specs.Num.{◌⊖◌, ◌⊗◌, at}
+use Prim.Native.Nat.{◌-◌}
 use Rattle.doubles.specs.Steps.{upward}
 use lib.ListN.{set}
 use Rattle.doubles.proofs.Laws.Steps.{upward-none, upward-more, upward-all}

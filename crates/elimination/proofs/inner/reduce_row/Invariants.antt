@@ -4,9 +4,6 @@ use Prim.Native.Nat.{◌≤◌, ◌-◌}
 use Rattle.doubles.specs.Num.{◌⊖◌, ◌⊗◌, at}
 use Rattle.doubles.specs.Steps.{upward}
 use lib.ListN.{set}
-use Rattle.doubles.proofs.Laws.Steps.{upward-none, upward-more, upward-all}
-use Rattle.elimination.specs.Elimination.{reduced}
-use native.Mathlib.Omega.{arith}
 use Rattle.elimination.proofs.inner.reduce_row.Given as goal
 
 abbrev pub invariant-loop-k : goal.invariant-loop-k

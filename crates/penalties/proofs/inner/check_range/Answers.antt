@@ -1,7 +1,6 @@
 -- `check_range`: alpha, then the second number. Assumes nothing.
 use mathlib.Core.Path.{◌∙◌}
 use Rattle.penalties.specs.Penalty.{penalty_fault}
-use borrow.Author.Rules.{rules}
 use Rattle.penalties.proofs.inner.check_range.Goals as goal
 
 pub returns-else-alpha_in_range : goal.returns-else-alpha_in_range

@@ -1,6 +1,5 @@
 -- `excess` goes by the test of its definition. Assumes nothing.
 use Rattle.penalties.specs.Penalty.{excess}
-use borrow.Author.Rules.{rules}
 use Rattle.penalties.proofs.inner.excess.Goals as goal
 
 pub returns-then-over : goal.returns-then-over

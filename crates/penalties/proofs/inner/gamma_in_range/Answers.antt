@@ -1,7 +1,6 @@
 -- `gamma_in_range`: finite, and then the bound. Assumes nothing.
 use Rattle.doubles.specs.Num.{◌and◌}
 use Rattle.penalties.specs.Penalty.{gamma_legal}
-use borrow.Author.Rules.{rules}
 use Rattle.penalties.proofs.inner.gamma_in_range.Goals as goal
 
 pub returns-then-is_finite : goal.returns-then-is_finite

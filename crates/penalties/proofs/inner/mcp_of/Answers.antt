@@ -1,6 +1,5 @@
 -- `mcp_of` goes by the test of its definition. Assumes nothing.
 use Rattle.penalties.specs.Penalty.{mcp_of}
-use borrow.Author.Rules.{rules}
 use Rattle.penalties.proofs.inner.mcp_of.Goals as goal
 
 pub returns-then-size-gamma : goal.returns-then-size-gamma

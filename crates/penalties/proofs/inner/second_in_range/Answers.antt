@@ -1,6 +1,5 @@
 -- `second_in_range` goes by the penalty's cases; each number is tested by its own function. Assumes nothing.
 use Rattle.penalties.specs.Penalty.{second_legal}
-use borrow.Author.Rules.{rules}
 use Rattle.penalties.proofs.inner.second_in_range.Goals as goal
 
 pub returns-in-L1 : goal.returns-in-L1

@@ -1,13 +1,9 @@
 -- `sum_abs`: the invariant is the sum of the weights passed. Assumes nothing.
-use mathlib.Core.Path.{◌≡◌}
-use Prim.Native.Nat.{◌≤◌, ◌-◌}
-use lib.ListN.{length}
-use Rattle.doubles.specs.Num.{at, abs}
-use Rattle.doubles.specs.Steps.{sum as total}
+use Prim.Native.Nat.{◌-◌}
+use Rattle.doubles.specs.Num.{abs}
 use Rattle.doubles.proofs.Laws.Steps.{steps-none, steps-turn, steps_all}
 use Rattle.penalties.specs.Penalty.{sum_abs}
 use native.Mathlib.Omega.{arith}
-use borrow.Author.Rules.{rules}
 use Rattle.penalties.proofs.inner.sum_abs.Goals as goal
 
 pub loop-j-init : goal.loop-j-init

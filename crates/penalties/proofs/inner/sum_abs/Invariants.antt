@@ -4,10 +4,6 @@ use Prim.Native.Nat.{◌≤◌, ◌-◌}
 use lib.ListN.{length}
 use Rattle.doubles.specs.Num.{at, abs}
 use Rattle.doubles.specs.Steps.{sum as total}
-use Rattle.doubles.proofs.Laws.Steps.{steps-none, steps-turn, steps_all}
-use Rattle.penalties.specs.Penalty.{sum_abs}
-use native.Mathlib.Omega.{arith}
-use borrow.Author.Rules.{rules}
 use Rattle.penalties.proofs.inner.sum_abs.Given as goal
 
 abbrev pub invariant-loop-j : goal.invariant-loop-j

@@ -1,13 +1,8 @@
 -- `sum_mcp`: the invariant is the sum of the weights passed. Assumes nothing.
-use mathlib.Core.Path.{◌≡◌}
-use Prim.Native.Nat.{◌≤◌, ◌-◌}
-use lib.ListN.{length}
-use Rattle.doubles.specs.Num.{at}
-use Rattle.doubles.specs.Steps.{sum as total}
+use Prim.Native.Nat.{◌-◌}
 use Rattle.doubles.proofs.Laws.Steps.{steps-none, steps-turn, steps_all}
 use Rattle.penalties.specs.Penalty.{sum_mcp, mcp_of}
 use native.Mathlib.Omega.{arith}
-use borrow.Author.Rules.{rules}
 use Rattle.penalties.proofs.inner.sum_mcp.Goals as goal
 
 pub loop-j-init : goal.loop-j-init

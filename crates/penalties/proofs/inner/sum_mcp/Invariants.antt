@@ -4,10 +4,7 @@ use Prim.Native.Nat.{◌≤◌, ◌-◌}
 use lib.ListN.{length}
 use Rattle.doubles.specs.Num.{at}
 use Rattle.doubles.specs.Steps.{sum as total}
-use Rattle.doubles.proofs.Laws.Steps.{steps-none, steps-turn, steps_all}
-use Rattle.penalties.specs.Penalty.{sum_mcp, mcp_of}
-use native.Mathlib.Omega.{arith}
-use borrow.Author.Rules.{rules}
+use Rattle.penalties.specs.Penalty.{mcp_of}
 use Rattle.penalties.proofs.inner.sum_mcp.Given as goal
 
 abbrev pub invariant-loop-j : goal.invariant-loop-j

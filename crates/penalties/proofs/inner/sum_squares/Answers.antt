@@ -1,9 +1,6 @@
 -- `sum_squares`: the invariant is the sum of the weights passed. Assumes nothing.
-use mathlib.Core.Path.{◌≡◌, refl}
-use Prim.Native.Nat.{◌≤◌, ◌-◌}
-use lib.ListN.{length}
-use Rattle.doubles.specs.Num.{◌⊗◌, at}
-use Rattle.doubles.specs.Steps.{sum as total}
+use mathlib.Core.Path.{refl}
+use Prim.Native.Nat.{◌-◌}
 use Rattle.doubles.proofs.Laws.Steps.{steps-none, steps-turn, steps_all}
 use Rattle.penalties.specs.Penalty.{sum_squares}
 use native.Mathlib.Omega.{arith}

@@ -1,6 +1,5 @@
 -- `value` goes by the penalty's cases. Assumes nothing.
 use Rattle.penalties.specs.Penalty.{value}
-use borrow.Author.Rules.{rules}
 use Rattle.penalties.proofs.inner.value.Goals as goal
 
 pub returns-in-L1 : goal.returns-in-L1

@@ -1,6 +1,5 @@
 -- `violation` goes by the penalty's cases. Assumes nothing.
 use Rattle.penalties.specs.Penalty.{violation}
-use borrow.Author.Rules.{rules}
 use Rattle.penalties.proofs.inner.violation.Goals as goal
 
 pub returns-in-L1 : goal.returns-in-L1

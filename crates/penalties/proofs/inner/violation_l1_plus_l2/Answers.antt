@@ -1,6 +1,5 @@
 -- `violation_l1_plus_l2` goes by the test of its definition. Assumes nothing.
 use Rattle.penalties.specs.Penalty.{violation_l1_plus_l2}
-use borrow.Author.Rules.{rules}
 use Rattle.penalties.proofs.inner.violation_l1_plus_l2.Goals as goal
 
 pub returns-then-w : goal.returns-then-w

@@ -1,6 +1,5 @@
 -- `violation_mcp` goes by the tests of its definition. Assumes nothing.
 use Rattle.penalties.specs.Penalty.{violation_mcp}
-use borrow.Author.Rules.{rules}
 use Rattle.penalties.proofs.inner.violation_mcp.Goals as goal
 
 pub returns-then-w : goal.returns-then-w

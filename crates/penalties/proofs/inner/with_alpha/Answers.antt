@@ -1,5 +1,4 @@
 -- `with_alpha` goes by the penalty's cases: the second number stays. Assumes nothing.
-use borrow.Author.Rules.{rules}
 use Rattle.penalties.proofs.inner.with_alpha.Goals as goal
 
 pub returns-in-L1 : goal.returns-in-L1

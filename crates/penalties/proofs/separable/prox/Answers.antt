@@ -1,6 +1,5 @@
 -- `prox` goes by the penalty's cases. Assumes nothing.
 use Rattle.penalties.specs.Penalty.{prox}
-use borrow.Author.Rules.{rules}
 use Rattle.penalties.proofs.separable.prox.Goals as goal
 
 pub returns-in-L1 : goal.returns-in-L1

@@ -1,6 +1,5 @@
 -- `prox_l1` is one soft threshold. Assumes nothing.
 use Rattle.penalties.specs.Penalty.{prox_l1}
-use borrow.Author.Rules.{rules}
 use Rattle.penalties.proofs.separable.prox_l1.Goals as goal
 
 pub returns : goal.returns

@@ -1,6 +1,5 @@
 -- `prox_mcp` goes by the tests of its definition. Assumes nothing.
 use Rattle.penalties.specs.Penalty.{prox_mcp}
-use borrow.Author.Rules.{rules}
 use Rattle.penalties.proofs.separable.prox_mcp.Goals as goal
 
 pub returns-then-size-tau : goal.returns-then-size-tau

@@ -1,7 +1,6 @@
 -- `subdiff_distance`: the numbers are tested, and the violation is the inner function's. Assumes nothing.
 use Rattle.doubles.proofs.Laws.Verdict.{stop-after, pass_after}
 use Rattle.penalties.specs.Penalty.{penalty_violation_call}
-use borrow.Author.Rules.{rules}
 use Rattle.penalties.proofs.separable.subdiff_distance.Goals as goal
 
 pub returns-in-Refused : goal.returns-in-Refused

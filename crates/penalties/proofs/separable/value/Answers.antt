@@ -4,7 +4,6 @@ use borrow.Author.Tests.{lt-leb, le-leb}
 use Rattle.doubles.specs.Num.{◌and◌}
 use Rattle.doubles.proofs.Laws.Verdict.{stop-after, pass_after}
 use Rattle.penalties.specs.Penalty.{penalty_value_call}
-use borrow.Author.Rules.{rules}
 use Rattle.penalties.proofs.separable.value.Goals as goal
 
 pub returns-then-n-lt1 : goal.returns-then-n-lt1

@@ -1,7 +1,6 @@
 -- `has_room`: the rooms one after the other, from the last. Assumes nothing.
 use Rattle.solvers.proofs.Laws.Calls.{rooms_tested}
 use Rattle.definition.specs.Call.{lent}
-use borrow.Author.Rules.{rules}
 use Rattle.solvers.proofs.inner.has_room.Goals as goal
 
 pub returns : goal.returns

@@ -1,5 +1,4 @@
 -- `report`: the counts, and the status. Assumes nothing.
-use borrow.Author.Rules.{rules}
 use Rattle.solvers.proofs.inner.report.Goals as goal
 
 pub returns : goal.returns

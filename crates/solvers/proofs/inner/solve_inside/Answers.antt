@@ -4,7 +4,6 @@ use Prim.Native.Nat.{ℕ}
 use Rattle.doubles.specs.Steps.{tab, zeros}
 use Rattle.definition.specs.Call.{scratch_room}
 use Rattle.solvers.proofs.Laws.Calls.{run-done, run-given_up}
-use borrow.Author.Rules.{rules}
 use Rattle.solvers.proofs.inner.solve_inside.Goals as goal
 use Rattle.solvers.proofs.inner.solve_inside.Goals.{After-clear, After-clear_indices}
 

@@ -1,6 +1,5 @@
 -- `append`: by the weight. Assumes nothing.
 use mathlib.Core.Path.{refl}
-use borrow.Author.Rules.{rules}
 use Rattle.worksets.proofs.inner.append.Goals as goal
 
 pub returns-then-w : goal.returns-then-w

@@ -1,11 +1,9 @@
 -- `clear_indices`: the invariant is what is written so far, and behind it what was there. Assumes nothing.
-use mathlib.Core.Path.{◌≡◌, refl}
+use mathlib.Core.Path.{◌≡◌}
 use Prim.Native.Nat.{ℕ, ◌≤◌, ◌-◌}
 use lib.ListN.{length, drop}
 use mathlib.Core.List.{◌++◌}
 use Rattle.doubles.specs.Steps.{tab}
-use Rattle.doubles.proofs.Laws.Steps.{tab-none, tab-more, tab-all}
-use borrow.Author.Rules.{rules}
 use Rattle.worksets.proofs.inner.clear_indices.Given as goal
 
 abbrev pub invariant-loop-k : goal.invariant-loop-k

@@ -1,14 +1,12 @@
 -- The search upward: so far nothing was found. Assumes nothing.
 use mathlib.Core.Path.{◌≡◌}
-use Prim.Native.Nat.{ℕ, ◌≤◌, ◌-◌}
+use Prim.Native.Nat.{ℕ, ◌-◌}
 use mathlib.Core.Bool.{Bool, not}
 use mathlib.Core.List.{List}
 use lib.Ieee.{Float, lt}
 use Rattle.doubles.specs.Num.{#0, at, finite, ◌and◌, ◌or◌}
-use lib.ListN.{length}
-use Rattle.designs.specs.Search.{first_of, mark}
+use Rattle.designs.specs.Search.{mark}
 use Rattle.designs.proofs.Laws.Search.{mark_on, mark_here}
-use Rattle.designs.specs.declared.Found.TheVariants.{Nowhere}
 use Rattle.doubles.proofs.Laws.Steps.{steps-none, steps_all}
 use Rattle.worksets.specs.Call.{bad_violation}
 use Rattle.definition.specs.WorkingSet.{is_zero}

@@ -1,6 +1,5 @@
 -- `is_bad_violation`: the three tests in their turn. Assumes nothing.
 use Rattle.doubles.specs.Num.{◌and◌, ◌or◌}
-use borrow.Author.Rules.{rules}
 use Rattle.worksets.proofs.inner.is_bad_violation.Goals as goal
 
 pub returns-then-is_finite : goal.returns-then-is_finite

@@ -1,12 +1,8 @@
 -- `nonzeros`: the invariant is the count among the features passed. Assumes nothing.
-use mathlib.Core.Path.{◌≡◌, ap, ◌∙◌}
-use Prim.Native.Nat.{ℕ, ◌≤◌, ◌-◌}
-use native.Mathlib.Nat.{le_antisymm}
+use mathlib.Core.Path.{◌≡◌}
+use Prim.Native.Nat.{◌≤◌, ◌-◌}
 use lib.ListN.{length}
 use Rattle.definition.specs.WorkingSet.{support}
-use Rattle.worksets.proofs.Laws.Sets.{support-few}
-use Rattle.worksets.proofs.Laws.Places.{support-start, support-count, counted_by}
-use borrow.Author.Rules.{rules}
 use Rattle.worksets.proofs.inner.nonzeros.Given as goal
 
 abbrev pub invariant-loop-j : goal.invariant-loop-j

@@ -2,7 +2,6 @@
 use Prim.Native.Nat.{◌*◌}
 use borrow.Author.Tests.{lt-ltb, le-ltb}
 use Rattle.worksets.proofs.Laws.Places.{smaller_of}
-use borrow.Author.Rules.{rules}
 use mathlib.Core.Path.{◌≡◌}
 use mathlib.Core.Logic.{inl, inr}
 use Prim.Native.Nat.{◌<◌, ◌≤◌}

@@ -1,9 +1,9 @@
 -- `support`: the invariant is the support of the features passed, and zeros behind it. Assumes nothing.
-use mathlib.Core.Path.{◌≡◌, refl, ap, ◌∙◌}
-use Prim.Native.Nat.{◌≤◌, ◌-◌}
+use mathlib.Core.Path.{refl, ap, ◌∙◌}
+use Prim.Native.Nat.{◌-◌}
 use lib.ListN.{length}
 use Rattle.doubles.proofs.Laws.Steps.{length-tab}
-use Rattle.definition.specs.WorkingSet.{support, padded}
+use Rattle.definition.specs.WorkingSet.{support}
 use Rattle.worksets.proofs.Laws.Places.{support-none, support-start, support-room, support-count, support-turn, support-all}
 use borrow.Author.Rules.{rules}
 use Rattle.worksets.proofs.inner.support.Goals as goal

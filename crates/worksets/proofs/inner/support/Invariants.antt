@@ -1,11 +1,8 @@
 -- `support`: the invariant is the support of the features passed, and zeros behind it. Assumes nothing.
-use mathlib.Core.Path.{◌≡◌, refl, ap, ◌∙◌}
+use mathlib.Core.Path.{◌≡◌}
 use Prim.Native.Nat.{◌≤◌, ◌-◌}
 use lib.ListN.{length}
-use Rattle.doubles.proofs.Laws.Steps.{length-tab}
 use Rattle.definition.specs.WorkingSet.{support, padded}
-use Rattle.worksets.proofs.Laws.Places.{support-none, support-start, support-room, support-count, support-turn, support-all}
-use borrow.Author.Rules.{rules}
 use Rattle.worksets.proofs.inner.support.Given as goal
 
 abbrev pub invariant-loop-j : goal.invariant-loop-j
