@@ -15,24 +15,46 @@ pub type Bytes = [u8; 4096];
 // Opens the list and reads on to its first record. A list that does not open is over, and standard error says why.
 pub fn open<R: Files<File = File> + Print + Eprint>(
     rt: &R,
-    path: &str,
+    path: &[u8],
     bytes: &mut Bytes,
     words: &mut Words,
 ) -> Progress
     ensures { ProgressWithin result }
 {
-    match File::open(rt, path) {
+    match opened(rt, path) {
+        None => over(rt, progress::begin(None)),
+        Some(file) => read_on(rt, progress::begin(Some(file)), path, bytes, words),
+    }
+}
+
+// The list's file, or none where it does not open. std opens a file by a name in UTF-8.
+fn opened<R: Files<File = File> + Eprint>(rt: &R, path: &[u8]) -> Option<File> {
+    let name = match str::from_utf8(path) {
         Err(error) => {
             fail(rt, path, error);
-            over(rt, progress::begin(None))
+            return None;
         }
-        Ok(file) => read_on(rt, progress::begin(Some(file)), path, bytes, words),
+        Ok(name) => name,
+    };
+    match File::open(rt, name) {
+        Err(error) => {
+            fail(rt, path, error);
+            None
+        }
+        Ok(file) => Some(file),
     }
 }
 
 // Says on standard error what failed, and why.
-fn fail(rt: &impl Eprint, path: &str, why: impl Display + Drop) {
-    let _ = eprintln!(rt; "{path}: {why}");
+fn fail(rt: &impl Eprint, path: &[u8], why: impl Display + Drop) {
+    match str::from_utf8(path) {
+        Err(_) => {
+            let _ = eprintln!(rt; "{path:?}: {why}");
+        }
+        Ok(name) => {
+            let _ = eprintln!(rt; "{name}: {why}");
+        }
+    }
 }
 
 // Counts the record that was found, and reads on to the one after it.
@@ -40,7 +62,7 @@ pub fn next(
     rt: &(impl Print + Eprint),
     p: Progress,
     compared: Compared,
-    path: &str,
+    path: &[u8],
     bytes: &mut Bytes,
     words: &mut Words,
 ) -> Progress
@@ -114,7 +136,7 @@ fn take_byte(rt: &impl Print, p: Progress, byte: u8, words: &mut Words) -> Progr
 fn fill(
     rt: &(impl Print + Eprint),
     mut p: Progress,
-    path: &str,
+    path: &[u8],
     bytes: &mut Bytes,
     words: &mut Words,
 ) -> Progress
@@ -146,7 +168,7 @@ fn fill(
 fn turn(
     rt: &(impl Print + Eprint),
     mut p: Progress,
-    path: &str,
+    path: &[u8],
     bytes: &mut Bytes,
     words: &mut Words,
 ) -> Progress
@@ -167,7 +189,7 @@ fn turn(
 fn read_on(
     rt: &(impl Print + Eprint),
     from: Progress,
-    path: &str,
+    path: &[u8],
     bytes: &mut Bytes,
     words: &mut Words,
 ) -> Progress

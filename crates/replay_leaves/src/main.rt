@@ -10,10 +10,10 @@ fn main(rt: HostRuntime) -> io::Result<()> {
     let path = env::args(&rt)?.nth(1).unwrap_or(String::new(rt.alloc()));
     let mut bytes = [0u8; 4096];
     let mut words = [0u64; 1024];
-    let mut p = list::open(&rt, path.as_str(), &mut bytes, &mut words);
+    let mut p = list::open(&rt, path.as_bytes(), &mut bytes, &mut words);
     while p.left > 0 {
         let compared = record::replay(&words, p.found);
-        p = list::next(&rt, p, compared, path.as_str(), &mut bytes, &mut words);
+        p = list::next(&rt, p, compared, path.as_bytes(), &mut bytes, &mut words);
     }
     Ok(())
 }
