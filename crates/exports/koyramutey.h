@@ -1,10 +1,10 @@
 /* Koyramutey for C and for whatever calls C.
 
-   To build: tools/library proves and compiles the library for this machine, x86-64 or Arm, and its last line is the folder of libexports.a.
+   To build: tools/library proves and compiles the library, for x86-64 and Linux, and its last line is the folder of libexports.a.
 
        cc prog.c -I crates/exports -L "$(tools/library | tail -n 1)" -lexports
 
-   (For x86-64 alone, `rt staticlib exports` writes target/staticlib/libexports.a.) example.c, beside this file, is such a program.
+   (`rt lib` in crates/exports writes crates/exports/out/libexports.a.) example.c, beside this file, is such a program.
 
    Arguments. A slice is a pointer and then its length in elements; a null pointer with length 0 is an empty slice. Slices do not overlap, and each
    pointer to a number points to one of its own. Numbers are taken whole: 2^32 + 5 iterations are refused, not 5 run. A lent buffer may be longer
