@@ -1,2 +1,3 @@
--- What belongs to no one function: how tight the promises are.
+-- What belongs to no one function: what all thin functions share, and how tight the promises are.
+pub mod Laws
 pub mod Tight

@@ -1,0 +1,3 @@
+-- Laws on the walks of thin functions.
+pub mod Steps
+pub mod Thin
