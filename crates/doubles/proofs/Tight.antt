@@ -1,14 +1,14 @@
 -- Any two outcomes that a public promise allows coincide. `Post` is the promise as the check reads it: of the arguments, the result and
--- what the parameters are at exit. A reading of an enum by cases loses nothing, so it is enough that the readings coincide. Assumes nothing.
+-- what the parameters are at exit. A reading by cases loses nothing, so it is enough that the readings coincide. Assumes nothing.
 use mathlib.Core.Path.{◌≡◌, refl, sym, ap, ◌∙◌}
 use mathlib.Core.Bool.{Bool}
 use lib.Ieee.{Float}
-use Rattle.doubles.specs.Answer.{Outcome, refused, number_of, verdict_of}
+use Rattle.std.proofs.Common.{ℕ, ◌-◌, List, [], ◌∷◌, get_or}
+use Rattle.std.specs.Prelude.{Result, Ok, Err}
+use Rattle.doubles.specs.Answer.{Outcome, refused, number, outcome_of}
+use Rattle.doubles.specs.declared.Reason.{Reason}
+use Rattle.doubles.specs.declared.Reason.TheVariants as Reason
 use Rattle.doubles.specs.declared.Refusal.{Refusal}
-use Rattle.doubles.specs.declared.Verdict.{Verdict}
-use Rattle.doubles.specs.declared.Verdict.TheVariants as Verdict
-use Rattle.doubles.specs.declared.Number.{Number}
-use Rattle.doubles.specs.declared.Number.TheVariants as Number
 use Rattle.doubles.proofs.abs.Reads as abs_reads
 use Rattle.doubles.proofs.signum.Reads as signum_reads
 use Rattle.doubles.proofs.is_finite.Reads as is_finite_reads
@@ -20,23 +20,41 @@ pub coincide : {A : Type 0} {x y z : A} → x ≡ z → y ≡ z → x ≡ y
 coincide p q = p ∙ sym q
 
 -- ---- a reading loses nothing
-pub same_refusal : {a b : Refusal} → a.number ≡ b.number → a.place ≡ b.place → a ≡ b
-same_refusal p q = λ i. record { number = p i; place = q i }
+abbrev reasons : List Reason
+reasons = Reason.Sizes ∷ Reason.Setting ∷ Reason.Room ∷ Reason.Start ∷ Reason.Row ∷ Reason.Number ∷ Reason.NotFinite ∷ Reason.Violation
+    ∷ Reason.File ∷ Reason.Prepared ∷ Reason.NoAlpha ∷ []
 
-pub one_refusal : {A : Type 0} (a b : Refusal) → ◌≡◌ {A = Outcome A} (refused a.number a.place) (refused b.number b.place) → a ≡ b
+-- the reason with a number
+abbrev reason : ℕ → Reason
+reason n = get_or reasons (n - 1) Reason.NoAlpha
+
+reason-number : (r : Reason) → reason (number r) ≡ r
+reason-number Reason.Sizes = refl
+reason-number Reason.Setting = refl
+reason-number Reason.Room = refl
+reason-number Reason.Start = refl
+reason-number Reason.Row = refl
+reason-number Reason.Number = refl
+reason-number Reason.NotFinite = refl
+reason-number Reason.Violation = refl
+reason-number Reason.File = refl
+reason-number Reason.Prepared = refl
+reason-number Reason.NoAlpha = refl
+
+one_reason : (a b : Reason) → number a ≡ number b → a ≡ b
+one_reason a b e = sym (reason-number a) ∙ ap reason e ∙ reason-number b
+
+pub same_refusal : {a b : Refusal} → number a.reason ≡ number b.reason → a.place ≡ b.place → a ≡ b
+same_refusal {a} {b} p q = λ i. record { reason = one_reason a.reason b.reason p i; place = q i }
+
+pub one_refusal : {A : Type 0} (a b : Refusal) → ◌≡◌ {A = Outcome A} (refused (number a.reason) a.place) (refused (number b.reason) b.place) → a ≡ b
 one_refusal a b e = same_refusal (cc) (cc)
 
-pub one_number : (a b : Number) → number_of a ≡ number_of b → a ≡ b
-one_number (Number.Refused r) (Number.Refused s) e = ap Number.Refused (one_refusal r s e)
-one_number (Number.Refused r) (Number.Is y) e = cc
-one_number (Number.Is x) (Number.Refused s) e = cc
-one_number (Number.Is x) (Number.Is y) e = cc
-
-pub one_verdict : (a b : Verdict) → verdict_of a ≡ verdict_of b → a ≡ b
-one_verdict Verdict.Fine Verdict.Fine e = refl
-one_verdict Verdict.Fine (Verdict.Refused s) e = cc
-one_verdict (Verdict.Refused r) Verdict.Fine e = cc
-one_verdict (Verdict.Refused r) (Verdict.Refused s) e = ap Verdict.Refused (one_refusal r s e)
+pub one_outcome : {A : Type 0} (a b : Result A Refusal) → outcome_of a ≡ outcome_of b → a ≡ b
+one_outcome (Err r) (Err s) e = ap Err (one_refusal r s e)
+one_outcome (Err r) (Ok y) e = cc
+one_outcome (Ok x) (Err s) e = cc
+one_outcome (Ok x) (Ok y) e = cc
 
 -- ---- the public calls
 abs_tight : (a : _) (r r' : Float) (s : _) → abs_reads.Post tt a r s → abs_reads.Post tt a r' s → r ≡ r'

@@ -1,18 +1,35 @@
 -- What the answers stand for: "the promises use a definition that gives this paper's number and values for each of the enum's cases".
-use Rattle.std.specs.Prelude.{Bool, true, false, ℕ, Float}
-use Rattle.doubles.specs.declared.Number.{Number}
-use Rattle.doubles.specs.declared.Number.TheVariants as Number
-use Rattle.doubles.specs.declared.Verdict.{Verdict}
-use Rattle.doubles.specs.declared.Verdict.TheVariants as Verdict
+use Rattle.std.specs.Prelude.{Bool, true, false, ℕ, Result, Ok, Err}
+use Rattle.doubles.specs.declared.Reason.{Reason}
+use Rattle.doubles.specs.declared.Reason.TheVariants as Reason
+use Rattle.doubles.specs.declared.Refusal.{Refusal}
 
 -- a refusal with its number and place, or an answer
 pub data Outcome (A : Type 0) : Type 0 where
   refused : (number place : ℕ) → Outcome A
   answered : A → Outcome A
 
-abbrev pub number_of : Number → Outcome Float
-number_of (Number.Refused r) = refused r.number r.place
-number_of (Number.Is x) = answered x
+-- "Refusal numbers"
+abbrev pub number : Reason → ℕ
+number Reason.Sizes = 1
+number Reason.Setting = 2
+number Reason.Room = 3
+number Reason.Start = 4
+number Reason.Row = 5
+number Reason.Number = 6
+number Reason.NotFinite = 7
+number Reason.Violation = 8
+number Reason.File = 9
+number Reason.Prepared = 10
+number Reason.NoAlpha = 11
+
+abbrev pub refusal : Reason → ℕ → Refusal
+refusal r place = record { reason = r; place = place }
+
+-- what a call answers, in numbers
+abbrev pub outcome_of : {A : Type 0} → Result A Refusal → Outcome A
+outcome_of (Err r) = refused (number r.reason) r.place
+outcome_of (Ok a) = answered a
 
 -- ---- faults
 -- what tests find: an outcome with nothing in it
@@ -21,10 +38,6 @@ Fault = Outcome (Unit {0})
 
 abbrev pub none : Fault
 none = answered tt
-
-abbrev pub verdict_of : Verdict → Fault
-verdict_of Verdict.Fine = none
-verdict_of (Verdict.Refused r) = refused r.number r.place
 
 -- a test, and what follows it where it holds; else a refusal at a place
 abbrev pub unless_at : {A : Type 0} → Bool → ℕ → ℕ → Outcome A → Outcome A

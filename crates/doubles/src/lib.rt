@@ -1,87 +1,82 @@
-// Functions of doubles that Rattle has no operator for: each equals its definition (specs/Num.antt) on every double. And what a call that
-// may refuse answers.
+// The functions of doubles that definitions name: each equals its definition (specs/Num.antt) on every double. And what a call that may refuse answers.
 #![tactic(auto)]
 
 ghost use Rattle.std.specs.Prelude.{◌≡◌};
 ghost use Rattle.std.specs.Float.{binary64};
 ghost use Rattle.std.specs.Float.Ieee.{of_bits};
+ghost use Rattle.doubles.specs.Answer as answer;
 ghost use Rattle.doubles.specs.Num as num;
 
-pub mod inner;
+// A call that may refuse answers Ok of its answer, or Err of a refusal. Why it refuses, in the order of document 01's numbers, and document 02's 10 and 11 behind them.
+#[derive(Clone, Copy, PartialEq, Eq, Debug, Drop)]
+pub enum Reason {
+    Sizes = 1,
+    Setting = 2,
+    Room = 3,
+    Start = 4,
+    Row = 5,
+    Number = 6,
+    NotFinite = 7,
+    Violation = 8,
+    File = 9,
+    Prepared = 10,
+    NoAlpha = 11,
+}
 
-// A refusal: document 01's number and place.
-#[derive(Clone, Copy, Drop)]
+// A refusal: its reason, which has a number, and its place.
+#[derive(Clone, Copy, PartialEq, Eq, Debug, Drop)]
 pub struct Refusal {
-    pub number: u32,
+    pub reason: Reason,
     pub place: usize,
 }
 
-// What tests say.
-#[derive(Clone, Copy, Drop)]
-pub enum Verdict {
-    Fine,
-    Refused(Refusal),
+impl Reason {
+    // The refusal for this reason at a place.
+    pub fn at(self, place: usize) -> Refusal
+        ensures { result ≡ answer.refusal self place }
+    {
+        Refusal {
+            reason: self,
+            place,
+        }
+    }
 }
 
-// What a call that answers a double answers.
-#[derive(Clone, Copy, Drop)]
-pub enum Number {
-    Refused(Refusal),
-    Is(f64),
+impl Refusal {
+    // The number by which documents, listings and calls from other languages name the reason.
+    pub fn number(self) -> u32
+        ensures { result ≡ answer.number self.reason }
+    {
+        self.reason as u32
+    }
 }
 
-// |x|. The test for zero clears the sign of -0.0, which `x < 0.0` does not see.
+// |x|.
 pub fn abs(x: f64) -> f64
     ensures { result ≡ num.abs x }
 {
-    if x < 0.0 {
-        -x
-    } else if x == 0.0 {
-        0.0
-    } else {
-        x
-    }
+    x.abs()
 }
 
-// Rust's f64::signum. Only a zero's sign takes a division to see, and only there is one done.
+// Rust's f64::signum.
 pub fn signum(x: f64) -> f64
     ensures { result ≡ num.signum x }
 {
-    if x < 0.0 {
-        -1.0
-    } else if 0.0 < x {
-        1.0
-    } else if x != x {
-        x
-    } else if 1.0 / x < 0.0 {
-        -1.0
-    } else {
-        1.0
-    }
+    x.signum()
 }
 
 // Neither NaN nor infinite.
 pub fn is_finite(x: f64) -> bool
     ensures { result ≡ num.finite x }
 {
-    if x < 1.0 / 0.0 {
-        -(1.0 / 0.0) < x
-    } else {
-        false
-    }
+    x.is_finite()
 }
 
 // The larger of two; a NaN stays. (f64::max drops it.)
 pub fn larger(x: f64, y: f64) -> f64
     ensures { result ≡ num.larger x y }
 {
-    if x < y {
-        return y;
-    }
-    if y != y {
-        return y;
-    }
-    x
+    if x < y || y.is_nan() { y } else { x }
 }
 
 // The double with these bits. A NaN's pattern lies above infinity's, the sign aside, and `from_bits` is undefined there.
@@ -89,7 +84,7 @@ pub fn double(word: u64) -> f64
     ensures { result ≡ of_bits binary64 word }
 {
     if 0x7ff0_0000_0000_0000 < word % 0x8000_0000_0000_0000 {
-        0.0 / 0.0
+        f64::NAN
     } else {
         f64::from_bits(word)
     }

@@ -2,10 +2,9 @@
 use mathlib.Core.Path.{◌≡◌, refl, sym, ap, ◌∙◌}
 use mathlib.Core.Bool.{Bool, true, false}
 use Prim.Native.Nat.{ℕ, ◌≤◌}
-use Rattle.doubles.specs.Answer.{refused, answered, Fault, none, verdict_of, unless_at, unless, ◌then◌, after, left}
+use Rattle.doubles.specs.Answer.{refused, answered, Fault, none, outcome_of, number, unless_at, unless, ◌then◌, after, left}
 use Rattle.doubles.specs.declared.Refusal.{Refusal}
-use Rattle.doubles.specs.declared.Verdict.{Verdict}
-use Rattle.doubles.specs.declared.Verdict.TheVariants as Verdict
+use Rattle.std.specs.Prelude.{Result, Ok, Err}
 use Rattle.doubles.proofs.Laws.Ends.{refused≢answered}
 
 -- ---- a chain of tests that found nothing
@@ -20,24 +19,24 @@ pub then-none : (f g : Fault) → (f then g) ≡ none → (f ≡ none) × (g ≡
 then-none (answered u) g e = (refl, e)
 then-none (refused number place) g e = absurd (refused≢answered e)
 
--- ---- behind a verdict
-module _ (v : Verdict) {f : Fault} (e : verdict_of v ≡ f) where
-  pub stop : (r : Refusal) → v ≡ Verdict.Refused r → refused r.number r.place ≡ f
-  stop r h = sym (ap verdict_of h) ∙ e
+-- ---- behind tests that answered v
+module _ (v : Result (Unit {0}) Refusal) {f : Fault} (e : outcome_of v ≡ f) where
+  pub stop : (r : Refusal) → v ≡ Err r → refused (number r.reason) r.place ≡ f
+  stop r h = sym (ap outcome_of h) ∙ e
 
-  pub stop-after : {A : Type 0} (a : A) (r : Refusal) → v ≡ Verdict.Refused r → refused r.number r.place ≡ after f a
+  pub stop-after : {A : Type 0} (a : A) (r : Refusal) → v ≡ Err r → refused (number r.reason) r.place ≡ after f a
   stop-after a r h = rw (← stop r h)
 
-  pub stop-left : {A : Type 0} (new old : A) (r : Refusal) → v ≡ Verdict.Refused r → old ≡ left f new old
+  pub stop-left : {A : Type 0} (new old : A) (r : Refusal) → v ≡ Err r → old ≡ left f new old
   stop-left new old r h = rw (← stop r h)
 
-  pub pass : v ≡ Verdict.Fine → none ≡ f
-  pass h = sym (ap verdict_of h) ∙ e
+  pub pass : v ≡ Ok tt → none ≡ f
+  pass h = sym (ap outcome_of h) ∙ e
 
-  pub pass_after : {A : Type 0} (a x : A) → v ≡ Verdict.Fine → x ≡ a → answered x ≡ after f a
+  pub pass_after : {A : Type 0} (a x : A) → v ≡ Ok tt → x ≡ a → answered x ≡ after f a
   pass_after a x h q = rw (← pass h, q)
 
-  pub pass_left : {A : Type 0} (new old x : A) → v ≡ Verdict.Fine → x ≡ new → x ≡ left f new old
+  pub pass_left : {A : Type 0} (new old x : A) → v ≡ Ok tt → x ≡ new → x ≡ left f new old
   pass_left new old x h q = rw (← pass h) q
 
 -- ---- the numbers that tests give

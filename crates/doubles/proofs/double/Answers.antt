@@ -1,17 +1,17 @@
 -- `double` is the double with the word's bits. A pattern is a NaN's where it lies above infinity's, the sign aside; of such a
--- pattern the model's double is nan, and so is 0 / 0. Assumes nothing.
+-- pattern the model's double is nan, and so is NAN. Assumes nothing.
 use mathlib.Core.Path.{◌≡◌, refl, sym, ◌∙◌}
 use mathlib.Core.Bool.{true, false≢true}
 use Prim.Native.Nat.{◌≤◌, ◌%◌}
 use native.Mathlib.Omega.{arith}
 use borrow.Author.Tests.{lt-ltb, le-ltb}
-use lib.Ieee.{Float, nan, inf, fin, binary64, of_bits, div, is_nan}
+use lib.Ieee.{Float, nan, inf, fin, binary64, of_bits, is_nan}
 use lib.Ieee.Bits.{nan_bits_is, nan_bits_above}
 use Rattle.doubles.proofs.double.Goals as goal
 
-is-nan : (x : Float) → is_nan x ≡ true → div binary64 (of_bits binary64 0) (of_bits binary64 0) ≡ x
+is-nan : (x : Float) → is_nan x ≡ true → of_bits binary64 0x7ff8_0000_0000_0000 ≡ x
 unfolding is_nan
-is-nan nan h = unfold div of_bits in refl
+is-nan nan h = unfold of_bits in refl
 is-nan (inf s) h = absurd (false≢true h)
 is-nan (fin s m e) h = absurd (false≢true h)
 

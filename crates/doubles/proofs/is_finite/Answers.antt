@@ -1,25 +1,14 @@
--- `doubles::is_finite`: the finite doubles are those strictly between the infinities. Assumes nothing.
-use mathlib.Core.Path.{◌≡◌, refl, sym}
-use mathlib.Core.Bool.{true, false}
-use lib.Ieee.{Float, nan, inf, fin, of_bits, neg, div, lt}
-use Rattle.doubles.specs.Num.{◌⊘◌, #0, #1, finite}
+-- `is_finite`: the library's test has the definition's cases.
+use Rattle.std.proofs.Common.{◌≡◌, refl, ◌∙◌}
+use Rattle.std.specs.Float.{nan, inf, fin, Float, float_is_finite}
+use Rattle.doubles.specs.Num.{finite}
 use Rattle.doubles.proofs.is_finite.Goals as goal
 
-below : (x : Float) → lt x (#1 ⊘ #0) ≡ true → lt (neg (#1 ⊘ #0)) x ≡ finite x
-unfolding finite lt neg div of_bits
-below nan h = refl
-below (inf true) h = refl
-below (inf false) h = sym h
-below (fin s m e) h = refl
+same : (x : Float) → float_is_finite x ≡ finite x
+unfolding finite float_is_finite
+same nan = refl
+same (inf s) = refl
+same (fin s m e) = refl
 
-not-below : (x : Float) → lt x (#1 ⊘ #0) ≡ false → false ≡ finite x
-unfolding finite lt div of_bits
-not-below nan h = refl
-not-below (inf s) h = refl
-not-below (fin s m e) h = sym h
-
-pub returns-then-x : goal.returns-then-x
-returns-then-x c = below _ c.if-x.true
-
-pub returns-else-x : goal.returns-else-x
-returns-else-x c = not-below _ c.if-x.false
+pub returns : goal.returns
+returns c = c.is_finite.ensures.value ∙ same _

@@ -1,16 +1,20 @@
--- `doubles::larger` goes by the two tests of its definition; that y differs from itself says that it is a NaN. Assumes nothing.
+-- `larger` goes by the two tests of its definition.
+use Rattle.std.proofs.Common.{sym, ◌∙◌, true, false}
+use mathlib.Core.Bool.{true≢false}
 use Rattle.doubles.specs.Num.{larger, ◌or◌}
-use Rattle.doubles.proofs.Laws.Order.{ne_self}
 use Rattle.doubles.proofs.larger.Goals as goal
+use Rattle.doubles.proofs.larger.Goals.{then-x-y, else-x-y}
 
-pub returns-then-x-y : goal.returns-then-x-y
+pub returns-then-is_nan : goal.returns-then-is_nan
 unfolding larger ◌or◌
-returns-then-x-y c = rw c.if-x-y.true
+returns-then-is_nan c = elim c.if-x-y.branch [
+  | then-x-y w ↦ rw w.if-x-y.true
+  | else-x-y w ↦ rw (w.if-x-y.false, ← w.is_nan.ensures.value, ← w.value-is, c.if-is_nan.true)
+]
 
-pub returns-then-y : goal.returns-then-y
+pub returns-else-is_nan : goal.returns-else-is_nan
 unfolding larger ◌or◌
-returns-then-y c = rw (c.if-x-y.false, ← ne_self, c.if-y.true)
-
-pub returns : goal.returns
-unfolding larger ◌or◌
-returns c = rw (c.if-x-y.false, ← ne_self, c.if-y.false)
+returns-else-is_nan c = elim c.if-x-y.branch [
+  | then-x-y w ↦ absurd (true≢false (sym w.if-x-y.true ∙ sym w.value-is ∙ c.if-is_nan.false))
+  | else-x-y w ↦ rw (w.if-x-y.false, ← w.is_nan.ensures.value, ← w.value-is, c.if-is_nan.false)
+]
