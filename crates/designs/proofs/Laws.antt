@@ -2,6 +2,7 @@
 pub mod Search
 pub mod Layouts
 pub mod Passed
+pub mod Tested
 pub mod Gradients
 pub mod Numbers
 pub mod Moved

@@ -1,19 +1,17 @@
 -- "Refusal numbers, in the order they are tested": 1, 3, 4, 5 and 6, each with the place of the first fault.
-use Rattle.std.specs.Prelude.{Bool, true, not, ℕ, ◌+◌, ◌-◌, ◌*◌, List, leb, ltb, eqb, length, get_or, Float}
+use Rattle.std.specs.Prelude.{Bool, true, not, ℕ, ◌+◌, ◌-◌, ◌*◌, List, leb, ltb, eqb, length, get_or, Float, Option, Some, None}
 use Rattle.doubles.specs.Num.{at, finite, pick, ◌and◌, ◌or◌}
 use Rattle.doubles.specs.Answer.{refused, Fault, none, unless}
 use Rattle.designs.specs.Given.{Given}
 use Rattle.designs.specs.Search.{first_of, mark}
-use Rattle.designs.specs.declared.Found.{Found}
-use Rattle.designs.specs.declared.Found.TheVariants.{At, Nowhere}
 use Rattle.designs.specs.declared.Layout.{Layout}
 use Rattle.designs.specs.declared.Layout.TheVariants.{Dense, Csc}
 use Rattle.designs.specs.declared.Shape.{Shape}
 
 -- a refusal at the place of what was found
-abbrev pub told : ℕ → Found → Fault → Fault
-told number (At k) f = refused number k
-told number Nowhere f = f
+abbrev pub told : ℕ → Option ℕ → Fault → Fault
+told number (Some k) f = refused number k
+told number None f = f
 
 -- ---- 1: "n, p or the stored count outside its limits, or array lengths disagree"
 unfoldable pub lengths : Layout → ℕ → ℕ → List ℕ → List ℕ → List Float → Bool
@@ -34,7 +32,7 @@ falls starts i = pick (eqb i 0) (ltb 0 (get_or starts i 0)) (ltb (get_or starts 
 unfoldable pub bad_start : List ℕ → ℕ → ℕ → Bool
 bad_start starts m i = falls starts i or ltb m (get_or starts i 0) or (eqb (i + 1) (length starts) and ltb (get_or starts i 0) m)
 
-unfoldable pub bad_starts : List ℕ → ℕ → Found
+unfoldable pub bad_starts : List ℕ → ℕ → Option ℕ
 bad_starts starts m = first_of (λ i. mark (bad_start starts m i) i) (length starts)
 
 -- ---- 5: "a row index at or above n, or not above its predecessor in the column"
@@ -42,16 +40,16 @@ bad_starts starts m = first_of (λ i. mark (bad_start starts m i) i) (length sta
 unfoldable pub bad_row : ℕ → List ℕ → ℕ → ℕ → Bool
 bad_row n rows a k = leb n (get_or rows (a + k) 0) or (ltb 0 k and leb (get_or rows (a + k) 0) (get_or rows (a + k - 1) 0))
 
-unfoldable pub bad_column : ℕ → List ℕ → List ℕ → ℕ → Found
+unfoldable pub bad_column : ℕ → List ℕ → List ℕ → ℕ → Option ℕ
 bad_column n starts rows j =
     first_of (λ k. mark (bad_row n rows (get_or starts j 0) k) (get_or starts j 0 + k)) (get_or starts (j + 1) 0 - get_or starts j 0)
 
-unfoldable pub bad_rows : ℕ → ℕ → List ℕ → List ℕ → Found
+unfoldable pub bad_rows : ℕ → ℕ → List ℕ → List ℕ → Option ℕ
 bad_rows n p starts rows = first_of (bad_column n starts rows) p
 
 -- ---- 6: "an input number is NaN or infinite; targets are tested first, then stored values"
 -- the first that is not finite, its place counted from `from`
-unfoldable pub not_finite : List Float → ℕ → Found
+unfoldable pub not_finite : List Float → ℕ → Option ℕ
 not_finite xs from = first_of (λ k. mark (not (finite (at xs k))) (from + k)) (length xs)
 
 -- "position in targets, or n + position in values"

@@ -1,19 +1,17 @@
 -- The first of n places, upward, at which something is found.
-use Rattle.std.specs.Prelude.{Bool, ℕ}
+use Rattle.std.specs.Prelude.{Bool, ℕ, Option, Some, None}
 use Rattle.doubles.specs.Num.{pick}
 use Rattle.doubles.specs.Steps.{steps}
-use Rattle.designs.specs.declared.Found.{Found}
-use Rattle.designs.specs.declared.Found.TheVariants.{At, Nowhere}
 
 -- what was found, and where nothing was, b
-abbrev pub or_else : Found → Found → Found
-or_else (At k) b = At k
-or_else Nowhere b = b
+abbrev pub or_else : Option ℕ → Option ℕ → Option ℕ
+or_else (Some k) b = Some k
+or_else None b = b
 
 -- what f finds at the first place below n at which it finds anything
-abbrev pub first_of : (ℕ → Found) → ℕ → Found
-first_of f n = steps (λ k r. or_else r (f k)) n Nowhere
+abbrev pub first_of : (ℕ → Option ℕ) → ℕ → Option ℕ
+first_of f n = steps (λ k r. or_else r (f k)) n None
 
 -- place m is found where it is bad
-abbrev pub mark : Bool → ℕ → Found
-mark b m = pick b (At m) Nowhere
+abbrev pub mark : Bool → ℕ → Option ℕ
+mark b m = pick b (Some m) None

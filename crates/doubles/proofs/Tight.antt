@@ -7,7 +7,6 @@ use Rattle.std.proofs.Common.{ℕ, ◌-◌, List, [], ◌∷◌, get_or}
 use Rattle.std.specs.Prelude.{Result, Ok, Err}
 use Rattle.doubles.specs.Answer.{Outcome, refused, number, outcome_of}
 use Rattle.doubles.specs.declared.Reason.{Reason}
-use Rattle.doubles.specs.declared.Reason.TheVariants as Reason
 use Rattle.doubles.specs.declared.Refusal.{Refusal}
 use Rattle.doubles.proofs.abs.Reads as abs_reads
 use Rattle.doubles.proofs.signum.Reads as signum_reads

@@ -1,7 +1,6 @@
 -- What the answers stand for: "the promises use a definition that gives this paper's number and values for each of the enum's cases".
 use Rattle.std.specs.Prelude.{Bool, true, false, ℕ, Result, Ok, Err}
 use Rattle.doubles.specs.declared.Reason.{Reason}
-use Rattle.doubles.specs.declared.Reason.TheVariants as Reason
 use Rattle.doubles.specs.declared.Refusal.{Refusal}
 
 -- a refusal with its number and place, or an answer

@@ -5,19 +5,17 @@ use Prim.Native.Nat.{ℕ, ◌≤◌}
 use lib.Dec.{lit≤}
 use lib.ListN.{length}
 use lib.Ieee.{Float}
-use Rattle.doubles.specs.Num.{◌and◌}
 use Rattle.doubles.specs.Answer.{Fault}
 use Rattle.doubles.proofs.Laws.Verdict.{AtMost, none_most, refused_most, unless_most}
 use Rattle.designs.specs.Given.{Given}
 use Rattle.designs.specs.Checks.{told, bad_starts, bad_rows, not_finite, numbers, csc_fault, contents, sized_fault}
-use Rattle.designs.specs.declared.Found.{Found}
-use Rattle.designs.specs.declared.Found.TheVariants.{At, Nowhere}
+use Rattle.std.specs.Prelude.{Option, Some, None}
 use Rattle.designs.specs.declared.Layout.{Layout}
 use Rattle.designs.specs.declared.Layout.TheVariants.{Dense, Csc}
 
-pub told_most : {m : ℕ} (number : ℕ) → number ≤ m → {f : Fault} (r : Found) → AtMost m f → AtMost m (told number r f)
-told_most number h (At i) k = refused_most h i
-told_most number h Nowhere k = k
+pub told_most : {m : ℕ} (number : ℕ) → number ≤ m → {f : Fault} (r : Option ℕ) → AtMost m f → AtMost m (told number r f)
+told_most number h (Some i) k = refused_most h i
+told_most number h None k = k
 
 numbers_most : (n : ℕ) (values y : List Float) → AtMost 6 (numbers n values y)
 unfolding numbers

@@ -23,8 +23,7 @@ use Rattle.designs.specs.Inner.Sound.{Rising, Sound, Held, Whole}
 use Rattle.designs.specs.Given.{Given}
 use Rattle.designs.specs.Checks.{told, lengths, sizes, sized_fault}
 use Rattle.designs.specs.Checks.{falls, bad_start, bad_starts, bad_row, bad_column, bad_rows, csc_fault, contents, admitted}
-use Rattle.designs.specs.declared.Found.{Found}
-use Rattle.designs.specs.declared.Found.TheVariants.{At, Nowhere}
+use Rattle.std.specs.Prelude.{Option, Some, None}
 use Rattle.designs.specs.declared.Layout.{Layout}
 use Rattle.designs.specs.declared.Layout.TheVariants.{Dense, Csc}
 use Rattle.designs.specs.declared.Shape.{Shape}
@@ -107,7 +106,7 @@ module _ (starts : List ℕ) (m i : ℕ) (e : bad_start starts m i ≡ false) wh
       let q : i - 1 ≡ j = omega arith in
       rw q at (ltb-false (get_or starts i 0) (get_or starts (i - 1) 0) (rw (ne_eqb i 0 (λ z. omega (arith, z))) at start_falls))
 
-pub rises : (p m : ℕ) (starts : List ℕ) → length starts ≡ p + 1 → bad_starts starts m ≡ Nowhere → Rising p m starts
+pub rises : (p m : ℕ) (starts : List ℕ) → length starts ≡ p + 1 → bad_starts starts m ≡ None → Rising p m starts
 unfolding bad_starts
 rises p m starts l e =
     let each : (i : ℕ) → i < p + 1 → bad_start starts m i ≡ false =
@@ -135,7 +134,7 @@ module _ (p m : ℕ) (starts : List ℕ) (s : Rising p m starts) (P : ℕ → Ty
   at_each : e < m → P e
   at_each h = up_to p (le_refl p) (rw s.last h)
 
-module _ (n p : ℕ) (starts rows : List ℕ) (b : bad_rows n p starts rows ≡ Nowhere) where
+module _ (n p : ℕ) (starts rows : List ℕ) (b : bad_rows n p starts rows ≡ None) where
   row_fine : (j k : ℕ) → j < p → k < get_or starts (j + 1) 0 - get_or starts j 0 → bad_row n rows (get_or starts j 0) k ≡ false
   unfolding bad_rows bad_column
   row_fine j k hj hk =
@@ -157,11 +156,11 @@ module _ (n p : ℕ) (starts rows : List ℕ) (b : bad_rows n p starts rows ≡ 
       (not-second _ _ (or-fails _ _ (row_fine j k hj hk)).1 (lt-ltb 0 k h))
 
 -- ---- all of them together
-pub untold : (number : ℕ) (f : Found) (g : Fault) → told number f g ≡ none → (f ≡ Nowhere) × (g ≡ none)
-untold number Nowhere g e = (refl, e)
-untold number (At k) g e = absurd (refused≢answered e)
+pub untold : (number : ℕ) (f : Option ℕ) (g : Fault) → told number f g ≡ none → (f ≡ None) × (g ≡ none)
+untold number None g e = (refl, e)
+untold number (Some k) g e = absurd (refused≢answered e)
 
-pub rising-rows : (p m r : ℕ) (starts : List ℕ) (a : Found) → length starts ≡ p + 1 → r ≡ m → a ≡ bad_starts starts m → a ≡ Nowhere → Rising p r starts
+pub rising-rows : (p m r : ℕ) (starts : List ℕ) (a : Option ℕ) → length starts ≡ p + 1 → r ≡ m → a ≡ bad_starts starts m → a ≡ None → Rising p r starts
 rising-rows p m r starts a hs hr ea ha = rw hr (rises p m starts hs (sym ea ∙ ha))
 
 module _ (g : Given) where
@@ -181,7 +180,7 @@ module _ (g : Given) where
         ascending = rows_ascend g.shape.n p g.starts g.rows b.0;
       }
 
-  held : (l : Layout) → lengths l g.shape.n g.shape.p g.starts g.rows g.values ≡ true → contents l g ≡ none
+  pub held : (l : Layout) → lengths l g.shape.n g.shape.p g.starts g.rows g.values ≡ true → contents l g ≡ none
       → Held l g.shape.n g.shape.p g.starts g.rows g.values
   unfolding Held contents
   held Dense h e = le_of_eq (sym (dense-values _ _ g.starts g.rows g.values h))
@@ -208,7 +207,7 @@ module _ (n p : ℕ) (starts rows : List ℕ) (values : List Float) where
       (neither_holds _ _ (le-ltb (length values) (get_or starts i 0) (S.rising.within i h))
       (second_of_lem _ _ (λ t. le-ltb (get_or starts i 0) (length values) (omega (arith, sound_last S i (eqb-true (i + 1) (length starts) t))))))
 
-  pub sound_passes : Sound n p starts rows values → (bad_starts starts (length values) ≡ Nowhere) × (bad_rows n p starts rows ≡ Nowhere)
+  pub sound_passes : Sound n p starts rows values → (bad_starts starts (length values) ≡ None) × (bad_rows n p starts rows ≡ None)
   unfolding bad_starts bad_rows bad_column bad_row
   sound_passes S = (
     none_first (λ i. mark (bad_start starts (length values) i) i) (length starts) (λ i h. rw (sound_start S i (rw S.columns at h))),

@@ -6,7 +6,7 @@ use native.Mathlib.Nat.{le_trans, le_of_eq, le_of_lt, zero-lt-suc, one-mul, mul-
 use native.Mathlib.Omega.{arith}
 use mathlib.Core.Bool.{Bool, true, false, not, ◌&&◌, beq, cond, true≢false, false≢true}
 use lib.IntN.{ℤ}
-use lib.Dec.{T, ltb, eqb, eqb-suc-zero}
+use lib.Dec.{T, ltb, eqb-suc-zero}
 use lib.Pow.{pow_mono}
 use lib.Ieee.{Float, nan, inf, fin, Format, binary32, binary64, prec, emax, low, up, down, size, nearest, unlike, odd, units, round, neg}
 use lib.Ieee.{sum as fsum, add, sub, mul, div, fits, is_nan, of_bits}

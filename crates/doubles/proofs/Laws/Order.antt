@@ -6,7 +6,7 @@ use native.Mathlib.Omega.{arith}
 use mathlib.Core.Bool.{Bool, true, false, not, ◌||◌, beq, true≢false, false≢true}
 use lib.IntN.{ℤ}
 use lib.Dec.{T, ltb, eqb, leb-zero, leb-suc-zero, leb-suc-suc, lt→ltb, eqb-suc-zero, eqb-zero-suc, eqb_refl}
-use lib.Ieee.{Float, nan, inf, fin, up, down, below, level, of_bits, lt, eq, ne, le, is_nan}
+use lib.Ieee.{Float, nan, inf, fin, up, down, level, of_bits, lt, eq, ne, le, is_nan}
 use lib.Ieee.Bits.{is_true}
 use lib.Ieee.Fits.{up_pos}
 use Rattle.doubles.specs.Num.{#0}

@@ -5,6 +5,8 @@ use Prim.Native.Nat.{ℕ, ◌≤◌}
 use Rattle.doubles.specs.Answer.{refused, answered, Fault, none, outcome_of, number, unless_at, unless, ◌then◌, after, left}
 use Rattle.doubles.specs.declared.Refusal.{Refusal}
 use Rattle.std.specs.Prelude.{Result, Ok, Err}
+use Rattle.std.specs.Result.{IsErrAnd}
+use Rattle.std.proofs.lemmas.Result.{err_from_is_err_and}
 use Rattle.doubles.proofs.Laws.Ends.{refused≢answered}
 
 -- ---- a chain of tests that found nothing
@@ -38,6 +40,10 @@ module _ (v : Result (Unit {0}) Refusal) {f : Fault} (e : outcome_of v ≡ f) wh
 
   pub pass_left : {A : Type 0} (new old x : A) → v ≡ Ok tt → x ≡ new → x ≡ left f new old
   pass_left new old x h q = rw (← pass h) q
+
+-- what a `?` that hands a refusal on returns
+pub handed_on : {A : Type 0} (r : Result A Refusal) {e : Refusal} → IsErrAnd r (λ y. y ≡ e) → r ≡ Err e
+handed_on r h = let p = err_from_is_err_and r h in p.1 ∙ ap Err p.2
 
 -- ---- the numbers that tests give
 pub record AtMost (m : ℕ) (f : Fault) : Type 0 where

@@ -1,5 +1,5 @@
 -- `larger` goes by the two tests of its definition.
-use Rattle.std.proofs.Common.{sym, ◌∙◌, true, false}
+use Rattle.std.proofs.Common.{sym, ◌∙◌}
 use mathlib.Core.Bool.{true≢false}
 use Rattle.doubles.specs.Num.{larger, ◌or◌}
 use Rattle.doubles.proofs.larger.Goals as goal

@@ -1,21 +1,19 @@
 -- `admit`: sizes, and what the call asks besides; then the rest behind them. Assumes nothing.
-use mathlib.Core.Path.{sym, ◌∙◌}
 use Rattle.doubles.specs.Num.{◌and◌}
 use Rattle.designs.specs.Checks.{admitted}
 use Rattle.designs.proofs.inner.admit.Goals as goal
+use Rattle.designs.proofs.inner.admit.Goals.{
+  then-not-sizes_agree-via-then-not-sizes_agree,
+  then-not-sizes_agree-via-else-not-sizes_agree+then-not-fits,
+}
 
-pub check_sized-requires : goal.check_sized-requires
-check_sized-requires c = sym c.sizes_agree.ensures ∙ c.if-sizes_agree.true
-
-pub returns-then-fits : goal.returns-then-fits
+pub returns-then-not-sizes_agree-clause-fault : goal.returns-then-not-sizes_agree-clause-fault
 unfolding admitted ◌and◌
-returns-then-fits c =
-    c.check_sized.ensures ∙ rw (← c.sizes_agree.ensures, c.if-sizes_agree.true, c.if-fits.true)
+returns-then-not-sizes_agree-clause-fault c = rw (c.at.ensures, ← c.sizes_agree.ensures) (elim c.then-not-sizes_agree.branch [
+  | then-not-sizes_agree-via-then-not-sizes_agree w ↦ rw w.if-not-sizes_agree.true
+  | then-not-sizes_agree-via-else-not-sizes_agree+then-not-fits w ↦ rw (w.if-not-sizes_agree.false, w.if-not-fits.true)
+])
 
-pub returns-then-sizes_agree : goal.returns-then-sizes_agree
+pub returns-clause-fault : goal.returns-clause-fault
 unfolding admitted ◌and◌
-returns-then-sizes_agree c = c.refused.ensures ∙ rw (← c.sizes_agree.ensures, c.if-sizes_agree.true, c.if-fits.false)
-
-pub returns : goal.returns
-unfolding admitted ◌and◌
-returns c = c.refused-2.ensures ∙ rw (← c.sizes_agree.ensures, c.if-sizes_agree.false)
+returns-clause-fault c = rw (← c.sizes_agree.ensures, c.if-not-sizes_agree.false, c.if-not-fits.false) c.check_sized.ensures.fault

@@ -7,6 +7,6 @@ pub returns-then-i-eq0 : goal.returns-then-i-eq0
 unfolding falls
 returns-then-i-eq0 c = rw (eq-eqb _ _ c.if-i-eq0.true)
 
-pub returns : goal.returns
+pub returns-else-i-eq0 : goal.returns-else-i-eq0
 unfolding falls
-returns c = rw (ne_eqb _ _ c.if-i-eq0.false)
+returns-else-i-eq0 c = rw (ne_eqb _ _ c.if-i-eq0.false)
