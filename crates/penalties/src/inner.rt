@@ -1,32 +1,29 @@
 // What the solver calls of a penalty: each answers on every double, and refuses nothing.
-ghost use Rattle.std.specs.Prelude.{◌≡◌};
-ghost use Rattle.doubles.specs.Answer.{verdict_of};
+ghost use Rattle.std.specs.Prelude.{◌≡◌, Float, length};
+ghost use Rattle.doubles.specs.Num.{at};
+ghost use Rattle.doubles.specs.Steps.{sum};
+ghost use Rattle.doubles.specs.Answer.{outcome_of};
 ghost use Rattle.penalties.specs.Penalty as pen;
 
 use crate::separable::Penalty;
-use doubles::inner::refused;
-use doubles::{Verdict, abs, is_finite, signum};
+use doubles::{Reason, Refusal, abs, is_finite, signum};
 
 pub fn alpha_in_range(alpha: f64) -> bool
     ensures { result ≡ pen.alpha_legal alpha }
 {
-    if is_finite(alpha) {
-        0.0 <= alpha
-    } else {
-        false
-    }
+    is_finite(alpha) && 0.0 <= alpha
 }
 
 fn ratio_in_range(ratio: f64) -> bool
     ensures { result ≡ pen.ratio_legal ratio }
 {
-    if 0.0 <= ratio { ratio <= 1.0 } else { false }
+    0.0 <= ratio && ratio <= 1.0
 }
 
 fn gamma_in_range(gamma: f64) -> bool
     ensures { result ≡ pen.gamma_legal gamma }
 {
-    if is_finite(gamma) { 0.0 < gamma } else { false }
+    is_finite(gamma) && 0.0 < gamma
 }
 
 // The second number; L1 has none.
@@ -34,9 +31,9 @@ fn second_in_range(p: Penalty) -> bool
     ensures { result ≡ pen.second_legal p }
 {
     match p {
-        Penalty::L1 { alpha: _ } => true,
-        Penalty::L1PlusL2 { alpha: _, l1_ratio } => ratio_in_range(l1_ratio),
-        Penalty::MCP { alpha: _, gamma } => gamma_in_range(gamma),
+        Penalty::L1 { .. } => true,
+        Penalty::L1PlusL2 { l1_ratio, .. } => ratio_in_range(l1_ratio),
+        Penalty::MCP { gamma, .. } => gamma_in_range(gamma),
     }
 }
 
@@ -44,9 +41,8 @@ fn alpha_of(p: Penalty) -> f64
     ensures { result ≡ pen.alpha_of p }
 {
     match p {
-        Penalty::L1 { alpha } => alpha,
-        Penalty::L1PlusL2 { alpha, l1_ratio: _ } => alpha,
-        Penalty::MCP { alpha, gamma: _ } => alpha,
+        Penalty::L1 { alpha } | Penalty::L1PlusL2 { alpha, .. } | Penalty::MCP { alpha, .. } =>
+            alpha,
     }
 }
 
@@ -55,55 +51,50 @@ pub fn with_alpha(p: Penalty, alpha: f64) -> Penalty
     ensures { result ≡ pen.with_alpha p alpha }
 {
     match p {
-        Penalty::L1 { alpha: _ } => Penalty::L1 { alpha: alpha },
-        Penalty::L1PlusL2 { alpha: _, l1_ratio } => Penalty::L1PlusL2 {
-            alpha: alpha,
-            l1_ratio: l1_ratio,
-        },
-        Penalty::MCP { alpha: _, gamma } => Penalty::MCP {
-            alpha: alpha,
-            gamma: gamma,
-        },
+        Penalty::L1 { .. } => Penalty::L1 { alpha },
+        Penalty::L1PlusL2 { l1_ratio, .. } => Penalty::L1PlusL2 { alpha, l1_ratio },
+        Penalty::MCP { gamma, .. } => Penalty::MCP { alpha, gamma },
     }
 }
 
 // 2, where a number of the penalty is outside its range: alpha, setting 5, then the second number, setting 6.
-pub fn check_range(p: Penalty) -> Verdict
-    ensures { verdict_of result ≡ pen.penalty_fault p }
+pub fn check_range(p: Penalty) -> Result<(), Refusal>
+    ensures { outcome_of result ≡ pen.penalty_fault p }
 {
-    if alpha_in_range(alpha_of(p)) {} else {
-        return refused(2, 5);
+    if !alpha_in_range(alpha_of(p)) {
+        return Err(Reason::Setting.at(5));
     }
-    if second_in_range(p) {} else {
-        return refused(2, 6);
+    if !second_in_range(p) {
+        return Err(Reason::Setting.at(6));
     }
-    Verdict::Fine
+    Ok(())
 }
 
 // ---- value
 
+// The sum of a term of each weight, features upward.
+fn sum_of<F: Fn(f64) -> f64>(w: &[f64], term: F) -> f64
+    requires { F.IsAlwaysCallable term }
+    ensures { (t : Float → Float) → ((x r : Float) → F.post term x r → r ≡ t x)
+        → result ≡ sum (λ j. t (at w.now j)) (length w.now) }
+{
+    let mut sum = 0.0;
+    for x in w {
+        sum += term(*x);
+    }
+    sum
+}
+
 fn sum_abs(w: &[f64]) -> f64
     ensures { result ≡ pen.sum_abs w.now }
 {
-    let mut sum = 0.0;
-    let mut j = 0;
-    while j < w.len() {
-        sum = sum + abs(w[j]);
-        j += 1;
-    }
-    sum
+    sum_of(w, |x| abs(x))
 }
 
 fn sum_squares(w: &[f64]) -> f64
     ensures { result ≡ pen.sum_squares w.now }
 {
-    let mut sum = 0.0;
-    let mut j = 0;
-    while j < w.len() {
-        sum = sum + w[j] * w[j];
-        j += 1;
-    }
-    sum
+    sum_of(w, |x| x * x)
 }
 
 fn mcp_of(alpha: f64, gamma: f64, w: f64) -> f64
@@ -120,13 +111,7 @@ fn mcp_of(alpha: f64, gamma: f64, w: f64) -> f64
 fn sum_mcp(alpha: f64, gamma: f64, w: &[f64]) -> f64
     ensures { result ≡ pen.sum_mcp alpha gamma w.now }
 {
-    let mut sum = 0.0;
-    let mut j = 0;
-    while j < w.len() {
-        sum = sum + mcp_of(alpha, gamma, w[j]);
-        j += 1;
-    }
-    sum
+    sum_of(w, |x| mcp_of(alpha, gamma, x))
 }
 
 pub fn value(p: Penalty, w: &[f64]) -> f64

@@ -5,10 +5,10 @@ ghost use Rattle.penalties.specs.Soft.{soft};
 pub fn soft_thresholding(x: f64, threshold: f64) -> f64
     ensures { result ≡ soft x threshold }
 {
-    if x != x {
+    if x.is_nan() {
         return x;
     }
-    if threshold != threshold {
+    if threshold.is_nan() {
         return threshold;
     }
     if x > threshold {

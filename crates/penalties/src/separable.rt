@@ -1,44 +1,29 @@
 // The penalties and their public calls. A penalty carries its own numbers; each call goes by its cases.
 ghost use Rattle.std.specs.Prelude.{◌≡◌};
 ghost use Rattle.penalties.specs.Penalty as pen;
-ghost use Rattle.doubles.specs.Answer as answer;
+ghost use Rattle.doubles.specs.Answer.{outcome_of};
 
 use crate::inner;
 use crate::prox_funcs::soft_thresholding;
-use doubles::{Number, Refusal, Verdict, abs, signum};
+use doubles::{Reason, Refusal, abs, signum};
 
-#[derive(Clone, Copy, Drop)]
+#[derive(Clone, Copy, PartialEq, Debug, Drop)]
 pub enum Penalty {
     L1 { alpha: f64 },
     L1PlusL2 { alpha: f64, l1_ratio: f64 },
     MCP { alpha: f64, gamma: f64 },
 }
 
-// 1, of place 0.
-fn refused_length() -> Number
-    ensures { answer.number_of result ≡ answer.refused 1 0 }
-{
-    Number::Refused(Refusal {
-        number: 1,
-        place: 0,
-    })
-}
-
 // The value over all weights: 1 for a length outside 1 to 8,192, 2 for a penalty number outside its range.
-pub fn value(p: Penalty, w: &[f64]) -> Number
-    ensures { answer.number_of result ≡ pen.penalty_value_call p w.now }
+pub fn value(p: Penalty, w: &[f64]) -> Result<f64, Refusal>
+    ensures { outcome_of result ≡ pen.penalty_value_call p w.now }
 {
     let n = w.len();
-    if n < 1 {
-        return refused_length();
+    if n < 1 || 8192 < n {
+        return Err(Reason::Sizes.at(0));
     }
-    if 8192 < n {
-        return refused_length();
-    }
-    match inner::check_range(p) {
-        Verdict::Refused(r) => Number::Refused(r),
-        Verdict::Fine => Number::Is(inner::value(p, w)),
-    }
+    inner::check_range(p)?;
+    Ok(inner::value(p, w))
 }
 
 fn prox_l1(alpha: f64, v: f64, step: f64) -> f64
@@ -81,11 +66,9 @@ pub fn prox(p: Penalty, v: f64, step: f64) -> f64
 }
 
 // The violation of one feature, with weight w and gradient grad: 2 for a penalty number outside its range.
-pub fn subdiff_distance(p: Penalty, w: f64, grad: f64) -> Number
-    ensures { answer.number_of result ≡ pen.penalty_violation_call p w grad }
+pub fn subdiff_distance(p: Penalty, w: f64, grad: f64) -> Result<f64, Refusal>
+    ensures { outcome_of result ≡ pen.penalty_violation_call p w grad }
 {
-    match inner::check_range(p) {
-        Verdict::Refused(r) => Number::Refused(r),
-        Verdict::Fine => Number::Is(inner::violation(p, w, grad)),
-    }
+    inner::check_range(p)?;
+    Ok(inner::violation(p, w, grad))
 }

@@ -1,22 +1,22 @@
 -- `check_range`: alpha, then the second number. Assumes nothing.
-use mathlib.Core.Path.{◌∙◌}
 use Rattle.penalties.specs.Penalty.{penalty_fault}
 use Rattle.penalties.proofs.inner.check_range.Goals as goal
 
-pub returns-else-alpha_in_range : goal.returns-else-alpha_in_range
+pub returns-then-not-alpha_in_range : goal.returns-then-not-alpha_in_range
 unfolding penalty_fault
-returns-else-alpha_in_range c =
-    c.refused.ensures ∙ rw (← c.alpha_of.ensures, ← c.alpha_in_range.ensures, c.if-alpha_in_range.false)
+returns-then-not-alpha_in_range c =
+    rw (c.at.ensures, ← c.alpha_of.ensures, ← c.alpha_in_range.ensures, c.if-not-alpha_in_range.true)
 
-pub returns-else-second_in_range : goal.returns-else-second_in_range
+pub returns-then-not-second_in_range : goal.returns-then-not-second_in_range
 unfolding penalty_fault
-returns-else-second_in_range c =
-    c.refused-else-second_in_range.ensures ∙ rw (
+returns-then-not-second_in_range c =
+    rw (
+      c.at-then-not-second_in_range.ensures,
       ← c.alpha_of.ensures,
       ← c.alpha_in_range.ensures,
-      c.if-alpha_in_range.true,
+      c.if-not-alpha_in_range.false,
       ← c.second_in_range.ensures,
-      c.if-second_in_range.false,
+      c.if-not-second_in_range.true,
     )
 
 pub returns : goal.returns
@@ -25,7 +25,7 @@ returns c =
     rw (
       ← c.alpha_of.ensures,
       ← c.alpha_in_range.ensures,
-      c.if-alpha_in_range.true,
+      c.if-not-alpha_in_range.false,
       ← c.second_in_range.ensures,
-      c.if-second_in_range.true,
+      c.if-not-second_in_range.false,
     )

@@ -1,28 +1,8 @@
--- `sum_mcp`: the invariant is the sum of the weights passed. Assumes nothing.
-use Prim.Native.Nat.{◌-◌}
-use Rattle.doubles.proofs.Laws.Steps.{steps-none, steps-turn, steps_all}
-use Rattle.penalties.specs.Penalty.{sum_mcp, mcp_of}
-use native.Mathlib.Omega.{arith}
+-- `sum_mcp`: its term is the MCP of a weight. Assumes nothing.
+use Rattle.std.proofs.Common.{of_calls}
+use Rattle.penalties.specs.Penalty.{mcp_of, sum_mcp}
 use Rattle.penalties.proofs.inner.sum_mcp.Goals as goal
-
-pub loop-j-init : goal.loop-j-init
-loop-j-init c = (omega arith, steps-none _ _)
-
-pub offset_bounds-w-j : goal.offset_bounds-w-j
-offset_bounds-w-j c = omega arith
-
-pub bounds-w-j : goal.bounds-w-j
-bounds-w-j c = omega arith
-
-pub overflow_add-j : goal.overflow_add-j
-overflow_add-j c = omega arith
-
-pub loop-j-smaller : goal.loop-j-smaller
-loop-j-smaller c = omega arith
-
-pub loop-j-preserved : goal.loop-j-preserved
-loop-j-preserved c = (omega arith, steps-turn _ _ _ _ _ c.loop-j.invariant.1 (rw c.mcp_of-sum.ensures))
 
 pub returns : goal.returns
 unfolding sum_mcp
-returns c = steps_all _ _ _ _ _ c.loop-j.invariant.1 c.loop-j.invariant.0 c.loop-j-test.false
+returns c = c.sum_of.ensures (mcp_of c.args.alpha c.args.gamma) (λ x r h. search of_calls)

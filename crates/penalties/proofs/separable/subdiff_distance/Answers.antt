@@ -1,13 +1,12 @@
 -- `subdiff_distance`: the numbers are tested, and the violation is the inner function's. Assumes nothing.
-use Rattle.doubles.proofs.Laws.Verdict.{stop-after, pass_after}
+use Rattle.doubles.proofs.Laws.Verdict.{handed_on}
 use Rattle.penalties.specs.Penalty.{penalty_violation_call}
 use Rattle.penalties.proofs.separable.subdiff_distance.Goals as goal
 
-pub returns-in-Refused : goal.returns-in-Refused
+pub returns-in_err-check_range : goal.returns-in_err-check_range
 unfolding penalty_violation_call
-returns-in-Refused c = stop-after _ c.check_range.ensures _ _ c.in-Refused.is
+returns-in_err-check_range c = rw (handed_on _ c.from_residual.ensures.1, ← c.in_err-check_range.ensures)
 
-pub returns-in-Fine : goal.returns-in-Fine
+pub returns : goal.returns
 unfolding penalty_violation_call
-returns-in-Fine c =
-    pass_after _ c.check_range.ensures _ _ c.in-Fine.is c.violation.ensures
+returns c = rw (← c.in_ok-check_range.ensures, c.violation.ensures)

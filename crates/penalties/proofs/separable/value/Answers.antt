@@ -1,28 +1,29 @@
 -- `value`: the length, then the numbers, then the inner function. Assumes nothing.
-use mathlib.Core.Path.{◌∙◌}
 use borrow.Author.Tests.{lt-leb, le-leb}
 use Rattle.doubles.specs.Num.{◌and◌}
-use Rattle.doubles.proofs.Laws.Verdict.{stop-after, pass_after}
+use Rattle.doubles.proofs.Laws.Verdict.{handed_on}
 use Rattle.penalties.specs.Penalty.{penalty_value_call}
 use Rattle.penalties.proofs.separable.value.Goals as goal
+use Rattle.penalties.proofs.separable.value.Goals.{then-n-lt1-via-then-n-lt1, then-n-lt1-via-else-n-lt1+then-n-gt8192}
 
 pub returns-then-n-lt1 : goal.returns-then-n-lt1
 unfolding penalty_value_call ◌and◌
-returns-then-n-lt1 c = c.refused_length.ensures ∙ rw (lt-leb _ _ c.if-n-lt1.true)
+returns-then-n-lt1 c = rw c.at.ensures (elim c.then-n-lt1.branch [
+  | then-n-lt1-via-then-n-lt1 w ↦ rw (lt-leb _ _ w.if-n-lt1.true)
+  | then-n-lt1-via-else-n-lt1+then-n-gt8192 w ↦ rw (le-leb _ _ w.if-n-lt1.false, lt-leb _ _ w.if-n-gt8192.true)
+])
 
-pub returns-then-n-gt8192 : goal.returns-then-n-gt8192
+pub returns-in_err-check_range : goal.returns-in_err-check_range
 unfolding penalty_value_call ◌and◌
-returns-then-n-gt8192 c =
-    c.refused_length-then-n-gt8192.ensures ∙ rw (le-leb _ _ c.if-n-lt1.false, lt-leb _ _ c.if-n-gt8192.true)
+returns-in_err-check_range c =
+    rw (
+      handed_on _ c.from_residual.ensures.1,
+      le-leb _ _ c.if-n-lt1.false,
+      le-leb _ _ c.if-n-gt8192.false,
+      ← c.in_err-check_range.ensures,
+    )
 
-pub returns-in-Refused : goal.returns-in-Refused
+pub returns : goal.returns
 unfolding penalty_value_call ◌and◌
-returns-in-Refused c =
-    rw (le-leb _ _ c.if-n-lt1.false, le-leb _ _ c.if-n-gt8192.false)
-    (stop-after _ c.check_range.ensures _ _ c.in-Refused.is)
-
-pub returns-in-Fine : goal.returns-in-Fine
-unfolding penalty_value_call ◌and◌
-returns-in-Fine c =
-    rw (le-leb _ _ c.if-n-lt1.false, le-leb _ _ c.if-n-gt8192.false)
-    (pass_after _ c.check_range.ensures _ _ c.in-Fine.is c.value.ensures)
+returns c =
+    rw (le-leb _ _ c.if-n-lt1.false, le-leb _ _ c.if-n-gt8192.false, ← c.in_ok-check_range.ensures, c.value.ensures)
