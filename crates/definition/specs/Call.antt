@@ -17,8 +17,7 @@ use Rattle.definition.specs.Run.{State, run}
 use Rattle.definition.specs.Preparation.{usable}
 use Rattle.definition.specs.declared.Settings.{Settings}
 use Rattle.definition.specs.declared.Report.{Report}
-use Rattle.definition.specs.declared.Fit.{Fit}
-use Rattle.definition.specs.declared.Fit.TheVariants as Fit
+use Rattle.definition.specs.declared.Status.TheVariants.{Met, Spent}
 
 -- ---- 2: "Outer iterations 0 to 1,000; epochs 0 to 100,000; start size 1 to 8,192 ..; Depth K is 1 to 10 when extrapolation is on and ignored when off.
 -- Tolerance and alpha are finite and at least 0"
@@ -115,17 +114,12 @@ solve_end g S handed b = behind (solve_fault g S handed b) (solved (task_of g S 
 -- "Status is 1 (met) if violation ≤ tolerance, else 2 (spent)"
 unfoldable pub report_of : Settings → State → Report
 report_of S s = record {
-  status = pick (le s.violation S.tolerance) 1 2;
+  status = pick (le s.violation S.tolerance) Met Spent;
   violation = s.violation;
   iterations = s.iterations;
   epochs = s.inner.epochs;
   extrapolations = s.inner.extrapolations;
 }
-
--- what the answer stands for
-abbrev pub fit_of : Fit → Outcome Report
-fit_of (Fit.Refused r) = refused r.number r.place
-fit_of (Fit.Done r) = answered r
 
 abbrev pub answer : Settings → End → Outcome Report
 answer S (untouched number place) = refused number place

@@ -5,6 +5,7 @@ pub mod Epoch
 pub mod Extrapolation
 pub mod Run
 pub mod Preparation
+pub mod Status
 pub mod Call
 pub mod Pair
 pub mod Walk

@@ -12,16 +12,14 @@ use Rattle.penalties.specs.declared.separable.Penalty.{Penalty}
 use Rattle.designs.specs.Given.{Given}
 use Rattle.designs.specs.Search.{first_of, mark}
 use Rattle.designs.specs.Checks.{sized_fault, room_twice}
-use Rattle.designs.specs.declared.Found.{Found}
-use Rattle.designs.specs.declared.Found.TheVariants.{At, Nowhere}
+use Rattle.std.specs.Prelude.{Option, Some, None}
 use Rattle.definition.specs.WorkingSet.{nonzeros}
 use Rattle.definition.specs.Call.{Lent, roomy, early_fault, End, untouched, given_up, done, behind, report_of, answer, buffers}
 use Rattle.definition.specs.Pair.{pair_end}
 use Rattle.definition.specs.declared.Settings.{Settings}
 use Rattle.definition.specs.declared.Report.{Report}
 use Rattle.definition.specs.declared.Usable.{Usable}
-use Rattle.definition.specs.declared.Walk.{Walk}
-use Rattle.definition.specs.declared.Walk.TheVariants as Walk
+use Rattle.definition.specs.Status.{is_met}
 
 -- ---- the settings: "The settings' alpha is neither used nor tested": another stands in its place
 abbrev pub with_penalty : Settings → Penalty → Settings
@@ -60,7 +58,7 @@ walk_tests g S alphas buf b = walk_early g S alphas then sized_fault g (room_twi
 
 -- ---- the property: "at most m nonzero weights with status 1"
 unfoldable pub wanted : ℕ → Report → ℕ → Bool
-wanted most r nonzero = eqb r.status 1 and leb nonzero most
+wanted most r nonzero = is_met r.status and leb nonzero most
 
 -- of a fit: "an alpha whose fit gives 7 lacks it, as all do if the walk's own preparation gives 7"
 abbrev pub usable_fit : Settings → ℕ → End → Bool
@@ -70,38 +68,33 @@ usable_fit S most (done s) = wanted most (report_of S s) (nonzeros s.inner.point
 
 -- ---- the walk
 -- the first place of n fits that has it
-unfoldable pub first_usable : Settings → ℕ → (ℕ → End) → ℕ → Found
+unfoldable pub first_usable : Settings → ℕ → (ℕ → End) → ℕ → Option ℕ
 first_usable S most fits n = first_of (λ k. mark (usable_fit S most (fits k)) k) n
 
 -- "judged by the fit's definition": preparing and then solving with the alpha at place k
 unfoldable pub fit_at : Given → Settings → List Float → List Float → Lent → ℕ → End
 fit_at g S alphas buf b k = pair_end g (at_alpha S (at alphas k)) buf b
 
-unfoldable pub position : Given → Settings → List Float → ℕ → List Float → Lent → Found
+unfoldable pub position : Given → Settings → List Float → ℕ → List Float → Lent → Option ℕ
 position g S alphas most buf b = first_usable S most (fit_at g S alphas buf b) (length alphas)
 
 -- "11 (none usable, place 0), which leaves weights and fit zero"
-abbrev pub end_at : (ℕ → End) → Found → End
-end_at fits (At k) = fits k
-end_at fits Nowhere = given_up 11 0
+abbrev pub end_at : (ℕ → End) → Option ℕ → End
+end_at fits (Some k) = fits k
+end_at fits None = given_up 11 0
 
 unfoldable pub walk_end : Given → Settings → List Float → ℕ → List Float → Lent → End
 walk_end g S alphas most buf b = behind (walk_tests g S alphas buf b) (end_at (fit_at g S alphas buf b) (position g S alphas most buf b))
 
 -- ---- the answer: "the position in the list with its weights, fit and report"
--- what the answer stands for
-abbrev pub walk_of : Walk → Outcome Usable
-walk_of (Walk.Refused r) = refused r.number r.place
-walk_of (Walk.Found u) = answered u
-
 abbrev pub placed : ℕ → Outcome Report → Outcome Usable
 placed k (refused number place) = refused number place
 placed k (answered r) = answered (record { position = k; report = r })
 
 -- where none was found, nothing is answered at any position
-abbrev pub placed_at : Found → Outcome Report → Outcome Usable
-placed_at (At k) o = placed k o
-placed_at Nowhere o = placed 0 o
+abbrev pub placed_at : Option ℕ → Outcome Report → Outcome Usable
+placed_at (Some k) o = placed k o
+placed_at None o = placed 0 o
 
 unfoldable pub walk_call : Given → Settings → List Float → ℕ → List Float → Lent → Outcome Usable
 walk_call g S alphas most buf b = placed_at (position g S alphas most buf b) (answer S (walk_end g S alphas most buf b))

@@ -2,11 +2,15 @@
 // sign laws all cite it from here, so that an edit of the one does not open the others.
 #![tactic(auto)]
 
-use doubles::Refusal;
+ghost use Rattle.std.specs.Prelude.{◌≡◌};
+ghost use Rattle.definition.specs.Status.{status_number};
+
 use penalties::separable::Penalty;
 
+pub mod problem;
+
 // The settings carry the penalty together with its own numbers.
-#[derive(Clone, Copy, Drop)]
+#[derive(Clone, Copy, PartialEq, Debug, Drop)]
 pub struct Settings {
     pub penalty: Penalty,
     pub tolerance: f64,
@@ -17,33 +21,35 @@ pub struct Settings {
     pub depth: usize,
 }
 
-// What a run reports. Status is 1 where the tolerance was met, else 2.
-#[derive(Clone, Copy, Drop)]
+// Whether the tolerance was met or the iterations are spent.
+#[derive(Clone, Copy, PartialEq, Eq, Debug, Drop)]
+pub enum Status {
+    Met = 1,
+    Spent = 2,
+}
+
+impl Status {
+    // The number by which documents, listings and calls from other languages name the status.
+    pub fn number(self) -> u32
+        ensures { result ≡ status_number self }
+    {
+        self as u32
+    }
+}
+
+// What a run reports.
+#[derive(Clone, Copy, PartialEq, Debug, Drop)]
 pub struct Report {
-    pub status: u32,
+    pub status: Status,
     pub violation: f64,
     pub iterations: usize,
     pub epochs: usize,
     pub extrapolations: usize,
 }
 
-// The answer of a fit.
-#[derive(Clone, Copy, Drop)]
-pub enum Fit {
-    Refused(Refusal),
-    Done(Report),
-}
-
 // The first usable alpha of a list: its position, counted from 0, and its fit's report.
-#[derive(Clone, Copy, Drop)]
+#[derive(Clone, Copy, PartialEq, Debug, Drop)]
 pub struct Usable {
     pub position: usize,
     pub report: Report,
-}
-
-// The answer of a walk over a list of alphas.
-#[derive(Clone, Copy, Drop)]
-pub enum Walk {
-    Refused(Refusal),
-    Found(Usable),
 }

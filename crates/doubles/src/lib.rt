@@ -6,6 +6,7 @@ ghost use Rattle.std.specs.Float.{binary64};
 ghost use Rattle.std.specs.Float.Ieee.{of_bits};
 ghost use Rattle.doubles.specs.Answer as answer;
 ghost use Rattle.doubles.specs.Num as num;
+ghost use Rattle.doubles.specs.declared.Reason.TheVariants.{NotFinite};
 
 // A call that may refuse answers Ok of its answer, or Err of a refusal. Why it refuses, in the order of document 01's numbers, and document 02's 10 and 11 behind them.
 #[derive(Clone, Copy, PartialEq, Eq, Debug, Drop)]
@@ -48,6 +49,18 @@ impl Refusal {
         ensures { result ≡ answer.number self.reason }
     {
         self.reason as u32
+    }
+}
+
+// A number of a run came out infinite or NaN: what breaks the run off, and its refusal.
+#[derive(Clone, Copy, PartialEq, Eq, Debug, Drop)]
+pub struct NotFinite;
+
+impl From<NotFinite> for Refusal {
+    ghost from_gives = { λ _ r. r ≡ answer.refusal NotFinite 0 };
+
+    fn from(_why: NotFinite) -> Refusal {
+        Reason::NotFinite.at(0)
     }
 }
 

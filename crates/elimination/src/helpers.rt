@@ -3,55 +3,27 @@ ghost use Rattle.std.specs.Prelude.{◌≡◌};
 ghost use Rattle.elimination.specs.Elimination as gauss;
 ghost use Rattle.elimination.specs.Answer as answer;
 
-use crate::inner::{eliminate, is_regular, read_off};
-use doubles::Refusal;
+use crate::inner::System;
+use doubles::{Reason, Refusal};
 
-#[derive(Clone, Copy, Drop)]
-pub enum Ending {
+// Why a system has no solution here.
+#[derive(Clone, Copy, PartialEq, Eq, Debug, Drop)]
+pub enum Unsolved {
     Refused(Refusal),
     Singular,
-    Solved,
 }
 
-#[derive(Clone, Copy, Drop)]
-pub struct Solution {
-    pub ending: Ending,
-    pub z: [f64; 10],
-}
-
-fn refused() -> Solution
-    ensures { answer.solution_of result ≡ gauss.refused_size }
-{
-    Solution {
-        ending: Ending::Refused(Refusal {
-            number: 1,
-            place: 0,
-        }),
-        z: [0.0; 10],
-    }
-}
-
-// The solution of the first `size` rows: 1 for a size outside 1 to 10. Unused places, and all ten where singular or refused, are +0.
-pub fn solve_lin_sys(system: [[f64; 11]; 10], size: usize) -> Solution
+// The solution of the first `size` rows, its unused places +0: 1 for a size outside 1 to 10.
+pub fn solve_lin_sys(system: [[f64; 11]; 10], size: usize) -> Result<[f64; 10], Unsolved>
     ensures { answer.solution_of result ≡ gauss.solve_call size system }
 {
-    if size < 1 {
-        return refused();
+    if size < 1 || 10 < size {
+        return Err(Unsolved::Refused(Reason::Sizes.at(0)));
     }
-    if 10 < size {
-        return refused();
+    let mut m = System { rows: system, size };
+    m.eliminate();
+    if !m.is_regular() {
+        return Err(Unsolved::Singular);
     }
-    let m = eliminate(system, size);
-    if is_regular(m, size) {
-        let z = read_off(m, size);
-        Solution {
-            ending: Ending::Solved,
-            z: z,
-        }
-    } else {
-        Solution {
-            ending: Ending::Singular,
-            z: [0.0; 10],
-        }
-    }
+    Ok(m.solution())
 }

@@ -1,161 +1,110 @@
-// Gaussian elimination as the Rust has it: no pivoting, zero pivots passed over. A system is a value, at most 10 by 10 with one right-hand
-// column, which stands behind the square part, at place `size` of each row; places past it are not looked at.
+// Gaussian elimination as the Rust has it: no pivoting, zero pivots passed over.
 ghost use Rattle.std.specs.Prelude.{◌≡◌, ◌+◌, ◌<◌, ◌≤◌};
 ghost use Rattle.elimination.specs.Elimination as gauss;
 
-// A pivot's place, the first column that its passes change, and the size of the system.
+// A system of `size` equations, at most 10. Its one right-hand column stands behind the square part, at place `size` of each row; places past it
+// are not looked at.
 #[derive(Clone, Copy, Drop)]
-pub struct Pivot {
-    pub place: usize,
-    pub from: usize,
+pub struct System {
+    pub rows: [[f64; 11]; 10],
     pub size: usize,
+    pub ghost small: { size ≤ 10 },
 }
 
-// The row without `factor` times the source, from the pivot's first column to the right-hand one.
-fn reduce_row(row: [f64; 11], source: [f64; 11], factor: f64, at: Pivot) -> [f64; 11]
-    requires { (at.from ≤ at.size) × (at.size ≤ 10) }
-    ensures { result ≡ gauss.reduced factor source at.from at.size row }
+// The row loses `factor` times the source, from place `from` to the right-hand column.
+fn reduce_row(row: &mut [f64; 11], source: &[f64; 11], factor: f64, from: usize, size: usize)
+    requires { (from ≤ size) × (size ≤ 10) }
+    ensures { row.new ≡ gauss.reduced factor source.now from size row.old }
 {
-    let src = source;
-    let mut out = row;
-    let end = at.size + 1;
-    let mut k = at.from;
-    while k < end {
-        out[k] = out[k] - factor * src[k];
-        k += 1;
+    for k in from..size + 1 {
+        row[k] -= factor * source[k];
     }
-    out
 }
 
-// Row t loses its entry under or over the pivot, up to rounding: no exact zero is written there.
-fn clear_row(m: [[f64; 11]; 10], t: usize, at: Pivot) -> [[f64; 11]; 10]
-    requires { (at.place < 10) × (t < 10) × (at.from ≤ at.size) × (at.size ≤ 10) }
-    ensures { result ≡ gauss.cleared at.place at.from at.size t m }
-{
-    let mut a = m;
-    let i = at.place;
-    let pivot = a[i][i];
-    if pivot == 0.0 {
-        return a;
-    }
-    let factor = a[t][i] / pivot;
-    let row = a[t];
-    let source = a[i];
-    let next = reduce_row(row, source, factor, at);
-    a[t] = next;
-    a
-}
-
-// The rows below the pivot, from its own column on.
-fn clear_below(m: [[f64; 11]; 10], size: usize, i: usize) -> [[f64; 11]; 10]
-    requires { (i < size) × (size ≤ 10) }
-    ensures { result ≡ gauss.cleared_below size i m }
-{
-    let mut a = m;
-    let mut t = i + 1;
-    while t < size {
-        let next = clear_row(
-            a,
-            t,
-            Pivot {
-                place: i,
-                from: i,
-                size: size,
-            },
-        );
-        a = next;
-        t += 1;
-    }
-    a
-}
-
-fn echelon_form(m: [[f64; 11]; 10], size: usize) -> [[f64; 11]; 10]
-    requires { (0 < size) × (size ≤ 10) }
-    ensures { result ≡ gauss.echelon size m }
-{
-    let mut a = m;
-    let last = size - 1;
-    let mut i: usize = 0;
-    while i < last {
-        let next = clear_below(a, size, i);
-        a = next;
-        i += 1;
-    }
-    a
-}
-
-// The rows above the pivot, from the nearest up, and the whole row of each, left of the pivot too.
-fn clear_above(m: [[f64; 11]; 10], size: usize, i: usize) -> [[f64; 11]; 10]
-    requires { (i < size) × (size ≤ 10) }
-    ensures { result ≡ gauss.cleared_above size i m }
-{
-    let mut a = m;
-    let mut t = i;
-    while 0 < t {
-        t -= 1;
-        let next = clear_row(
-            a,
-            t,
-            Pivot {
-                place: i,
-                from: 0,
-                size: size,
-            },
-        );
-        a = next;
-    }
-    a
-}
-
-fn back_substitute(m: [[f64; 11]; 10], size: usize) -> [[f64; 11]; 10]
-    requires { (0 < size) × (size ≤ 10) }
-    ensures { result ≡ gauss.back_substituted size m }
-{
-    let mut a = m;
-    let mut i = size;
-    while 1 < i {
-        i -= 1;
-        let next = clear_above(a, size, i);
-        a = next;
-    }
-    a
-}
-
-// Both passes.
-pub fn eliminate(m: [[f64; 11]; 10], size: usize) -> [[f64; 11]; 10]
-    requires { (0 < size) × (size ≤ 10) }
-    ensures { result ≡ gauss.eliminated size m }
-{
-    let e = echelon_form(m, size);
-    back_substitute(e, size)
-}
-
-// Whether no zero stands on the diagonal. (A NaN is not zero.)
-pub fn is_regular(m: [[f64; 11]; 10], size: usize) -> bool
-    requires { size ≤ 10 }
-    ensures { result ≡ gauss.regular size m }
-{
-    let a = m;
-    let mut i: usize = 0;
-    while i < size {
-        if a[i][i] == 0.0 {
-            return false;
+impl System {
+    // Row t loses its entry under or over pivot i, up to rounding: no exact zero is written there. Places before `from` stay.
+    fn clear_row(&mut self, t: usize, i: usize, from: usize)
+        requires { (t < 10) × (i < 10) × (from ≤ self.old.size) }
+        ensures { (self.new.rows ≡ gauss.cleared i from self.old.size t self.old.rows) × (self.new.size ≡ self.old.size) }
+    {
+        let pivot = self.rows[i][i];
+        if pivot == 0.0 {
+            return;
         }
-        i += 1;
+        let factor = self.rows[t][i] / pivot;
+        let source = self.rows[i];
+        let mut row = self.rows[t];
+        reduce_row(&mut row, &source, factor, from, self.size);
+        self.rows[t] = row;
     }
-    true
-}
 
-pub fn read_off(m: [[f64; 11]; 10], size: usize) -> [f64; 10]
-    requires { size ≤ 10 }
-    ensures { result ≡ gauss.read_off size m }
-{
-    let a = m;
-    let mut z = [0.0; 10];
-    let mut i: usize = 0;
-    while i < size {
-        z[i] = a[i][size] / a[i][i];
-        i += 1;
+    // The rows below pivot i, from its own column on.
+    fn clear_below(&mut self, i: usize)
+        requires { i < self.old.size }
+        ensures { (self.new.rows ≡ gauss.cleared_below self.old.size i self.old.rows) × (self.new.size ≡ self.old.size) }
+    {
+        for t in i + 1..self.size {
+            self.clear_row(t, i, i);
+        }
     }
-    z
+
+    fn to_echelon_form(&mut self)
+        requires { 0 < self.old.size }
+        ensures { (self.new.rows ≡ gauss.echelon self.old.size self.old.rows) × (self.new.size ≡ self.old.size) }
+    {
+        for i in 0..self.size - 1 {
+            self.clear_below(i);
+        }
+    }
+
+    // The rows above pivot i, from the nearest up, and the whole row of each, left of the pivot too.
+    fn clear_above(&mut self, i: usize)
+        requires { i < self.old.size }
+        ensures { (self.new.rows ≡ gauss.cleared_above self.old.size i self.old.rows) × (self.new.size ≡ self.old.size) }
+    {
+        for t in (0..i).rev() {
+            self.clear_row(t, i, 0);
+        }
+    }
+
+    fn back_substitute(&mut self)
+        requires { 0 < self.old.size }
+        ensures { (self.new.rows ≡ gauss.back_substituted self.old.size self.old.rows) × (self.new.size ≡ self.old.size) }
+    {
+        for i in (1..self.size).rev() {
+            self.clear_above(i);
+        }
+    }
+
+    // Both passes.
+    pub fn eliminate(&mut self)
+        requires { 0 < self.old.size }
+        ensures { (self.new.rows ≡ gauss.eliminated self.old.size self.old.rows) × (self.new.size ≡ self.old.size) }
+    {
+        self.to_echelon_form();
+        self.back_substitute();
+    }
+
+    // Whether no zero stands on the diagonal. (A NaN is not zero.)
+    pub fn is_regular(&self) -> bool
+        ensures { result ≡ gauss.regular self.now.size self.now.rows }
+    {
+        for i in 0..self.size {
+            if self.rows[i][i] == 0.0 {
+                return false;
+            }
+        }
+        true
+    }
+
+    // The right-hand column over the diagonal, and +0 behind it.
+    pub fn solution(&self) -> [f64; 10]
+        ensures { result ≡ gauss.read_off self.now.size self.now.rows }
+    {
+        let mut z = [0.0; 10];
+        for i in 0..self.size {
+            z[i] = self.rows[i][self.size] / self.rows[i][i];
+        }
+        z
+    }
 }

@@ -10,8 +10,7 @@ use Rattle.doubles.proofs.Laws.Ends.{refused≢answered}
 use Rattle.designs.specs.Given.{Given}
 use Rattle.designs.specs.Search.{first_of, mark}
 use Rattle.designs.specs.Checks.{told}
-use Rattle.designs.specs.declared.Found.{Found}
-use Rattle.designs.specs.declared.Found.TheVariants.{At, Nowhere}
+use Rattle.std.specs.Prelude.{Option, Some, None}
 use Rattle.definition.specs.Epoch.{Task}
 use Rattle.definition.specs.Run.{State, run}
 use Rattle.definition.specs.Call.{Lent, acceptable_at, handed_fault, solve_tests, solve_fault, End, untouched, given_up, done, concluded, solved, task_of}
@@ -29,9 +28,9 @@ handed_ten : (p : ℕ) (handed : List Float) (number place : ℕ) → handed_fau
 unfolding handed_fault
 handed_ten p handed number place = go (first_of (λ j. mark (not (acceptable_at p handed j)) j) p)
   where
-    go : (r : Found) → told 10 r none ≡ refused number place → number ≡ 10
-    go (At k) e = cc
-    go Nowhere e = absurd (refused≢answered (sym e))
+    go : (r : Option ℕ) → told 10 r none ≡ refused number place → number ≡ 10
+    go (Some k) e = cc
+    go None e = absurd (refused≢answered (sym e))
 
 solved-seven : (T : Task) (y : List Float) (S : Settings) (number place : ℕ) → solved T y S ≡ given_up number place → number ≡ 7
 unfolding solved

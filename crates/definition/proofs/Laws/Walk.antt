@@ -19,7 +19,7 @@ use Rattle.penalties.proofs.Alpha.{another_alpha, zero-legal}
 use Rattle.designs.specs.Given.{Given}
 use Rattle.designs.specs.Search.{mark}
 use Rattle.designs.specs.Checks.{contents, sized_fault, admitted, room_twice, preparation_fault}
-use Rattle.designs.specs.declared.Found.TheVariants.{At, Nowhere}
+use Rattle.std.specs.Prelude.{Some, None}
 use Rattle.designs.specs.declared.Shape.{Shape}
 use Rattle.designs.proofs.Laws.Numbers.{sized_most}
 use Rattle.designs.proofs.Laws.Search.{marked, unmarked, none_first, first-none, first_found}
@@ -151,7 +151,7 @@ module _ (S : Settings) (most : ℕ) where
       pub usable : usable_fit S most (fits k) ≡ true
       pub before : (i : ℕ) → i < k → usable_fit S most (fits i) ≡ false
 
-    pub chosen : (n k : ℕ) → first_usable S most fits n ≡ At k → Chosen n k
+    pub chosen : (n k : ℕ) → first_usable S most fits n ≡ Some k → Chosen n k
     unfolding first_usable
     chosen n k e =
         let f = first_found (λ i. mark (usable_fit S most (fits i)) i) n k e in
@@ -163,10 +163,10 @@ module _ (S : Settings) (most : ℕ) where
         }
 
     -- none is found exactly where none is usable
-    pub not-usable : (n : ℕ) → first_usable S most fits n ≡ Nowhere → (k : ℕ) → k < n → usable_fit S most (fits k) ≡ false
+    pub not-usable : (n : ℕ) → first_usable S most fits n ≡ None → (k : ℕ) → k < n → usable_fit S most (fits k) ≡ false
     unfolding first_usable
     not-usable n e k l = unmarked (usable_fit S most (fits k)) k (first-none (λ i. mark (usable_fit S most (fits i)) i) n e k l)
 
-    pub none_usable : (n : ℕ) → ((k : ℕ) → k < n → usable_fit S most (fits k) ≡ false) → first_usable S most fits n ≡ Nowhere
+    pub none_usable : (n : ℕ) → ((k : ℕ) → k < n → usable_fit S most (fits k) ≡ false) → first_usable S most fits n ≡ None
     unfolding first_usable
     none_usable n h = none_first (λ i. mark (usable_fit S most (fits i)) i) n (λ i l. rw (h i l))

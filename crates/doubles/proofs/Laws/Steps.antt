@@ -51,6 +51,9 @@ module _ {A : Type 0} (f : ℕ → A → A) (a : ℕ) (s : A) where
       let j : a + (i - a) ≡ i = omega arith in
       rw (d, ← steps-more (λ k. f (a + k)) s (i - a) b e, j)
 
+  pub upward-turn : (i : ℕ) (b t : A) → a ≤ i → b ≡ upward f a i s → t ≡ f i b → t ≡ upward f a (i + 1) s
+  upward-turn i b t h e q = q ∙ upward-more i b h e
+
   pub upward-all : (i n : ℕ) (b : A) → b ≡ upward f a i s → i ≤ n → n ≤ i → b ≡ upward f a n s
   upward-all i n b e p q = rw (← le_antisymm p q) e
 
@@ -66,6 +69,9 @@ module _ {A : Type 0} (f : ℕ → A → A) (e : ℕ) (s : A) where
       let d : e - (j - 1) ≡ e - j + 1 = omega arith in
       let i : e - suc (e - j) ≡ j - 1 = omega arith in
       rw (d, ← steps-more (λ k. f (e - suc k)) s (e - j) b q, i)
+
+  pub downward-turn : (j : ℕ) (b t : A) → 0 < j → j ≤ e → b ≡ downward f e (e - j) s → t ≡ f (j - 1) b → t ≡ downward f e (e - (j - 1)) s
+  downward-turn j b t l h q r = r ∙ downward-more j b l h q
 
   pub downward-all : (j : ℕ) (b : A) → j ≤ 0 → b ≡ downward f e (e - j) s → b ≡ downward f e e s
   downward-all j b h q = let z : e - j ≡ e = omega arith in rw z at q
