@@ -4,7 +4,6 @@ use mathlib.Core.Bool.{true}
 use Prim.Native.Nat.{◌≤◌, ◌<◌}
 use lib.Dec.{leb}
 use borrow.Author.Tests.{leb-true}
-use Rattle.doubles.specs.Num.{◌and◌}
 use Rattle.doubles.specs.Answer.{Fault, none, unless_at}
 use Rattle.doubles.proofs.Laws.Choice.{and_both}
 use Rattle.doubles.proofs.Laws.Verdict.{spared_at}
