@@ -9,3 +9,4 @@ pub mod Status
 pub mod Call
 pub mod Pair
 pub mod Walk
+pub mod Inner

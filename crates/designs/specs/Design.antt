@@ -5,6 +5,7 @@ use Rattle.doubles.specs.Steps.{steps, sum, tab, all, largest_from}
 use Rattle.designs.specs.declared.Layout.{Layout}
 use Rattle.designs.specs.declared.Layout.TheVariants.{Dense, Csc}
 use Rattle.designs.specs.declared.Shape.{Shape}
+use Rattle.designs.specs.declared.Matrix.{Matrix}
 
 -- n samples and p features; feature j has `many j` stored entries, and the k-th of them lies in row `row j k`
 pub record Design : Type 0 where
@@ -35,6 +36,9 @@ laid Csc n p starts rows values = csc n p starts rows values
 -- the design of a shape and its three slices; a dense one's starts and rows are not looked at
 abbrev pub design : Shape → List ℕ → List ℕ → List Float → Design
 design s starts rows values = laid s.layout s.n s.p starts rows values
+
+abbrev pub of_matrix : Matrix → Design
+of_matrix x = design x.shape x.starts.now x.rows.now x.values.now
 
 -- the shapes of the two layouts
 abbrev pub dense_shape : ℕ → ℕ → Shape
