@@ -8,12 +8,7 @@ use lib.Ieee.{Float}
 use lib.ListN.{length, get_or}
 use native.Mathlib.Omega.{arith}
 use Rattle.designs.specs.Inner.Sound.{Sound}
-use Rattle.designs.proofs.Laws.Layouts.{column-end, row_below}
-
--- the entries from start on, so many of them, are stored, and their rows are places of a list of such a length
-abbrev pub Within : (start many places : ℕ) → List ℕ → List Float → Type 0
-Within start many places rows values =
-    (start + many ≤ length values) × (length rows ≡ length values) × ((k : ℕ) → k < many → get_or rows (start + k) 0 < places)
+use Rattle.designs.proofs.Laws.Layouts.{column-end}
 
 module _ {n p : ℕ} {starts rows : List ℕ} {values : List Float} (S : Sound n p starts rows values) (j : ℕ) (h : j < p) where
   pub stored_asked : (j + 1 < length starts) × (get_or starts j 0 ≤ get_or starts (j + 1) 0)
@@ -23,5 +18,5 @@ module _ {n p : ℕ} {starts rows : List ℕ} {values : List Float} (S : Sound n
     pub stored-end : start + many ≤ length values
     stored-end = rw (e.0, e.1) (column-end S j h)
 
-    pub stored-within : {places : ℕ} → n ≤ places → Within start many places rows values
-    stored-within room = (stored-end, S.entries, λ k l. lt_of_lt_of_le (rw e.0 (row_below S j h k (rw e.1 at l))) room)
+    pub stored-row : {places : ℕ} → n ≤ places → (k : ℕ) → k < start + many → get_or rows k 0 < places
+    stored-row room k l = lt_of_lt_of_le (S.below k (omega (arith, stored-end))) room
