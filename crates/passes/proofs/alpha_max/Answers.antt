@@ -12,6 +12,6 @@ pub returns : goal.returns
 returns c = (
   largest-dots _ _ _ (samples _ _ _ _ _ _) (features _ _ _ _ _ _) _ _ _ _ (search rules)
       c.requires.1
-      c.all_dots.ensures c.largest_abs-v.ensures,
+      c.all_dots.ensures c.largest_abs.ensures,
   c.all_dots.ensures,
 )
