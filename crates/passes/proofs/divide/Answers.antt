@@ -5,12 +5,8 @@ use lib.Ieee.{nan}
 use lib.ListN.{length}
 use Rattle.doubles.proofs.Laws.Steps.{tab-none, tab_here, tab-more, tab-all}
 use native.Mathlib.Omega.{arith}
-use Rattle.designs.proofs.Laws.Layouts.{counted}
 use borrow.Author.Rules.{rules}
 use Rattle.passes.proofs.divide.Goals as goal
-
-pub int_to_float-m : goal.int_to_float-m
-int_to_float-m c = search (rules, counted)
 
 pub loop-x-init : goal.loop-x-init
 loop-x-init c = tab-none _ _
