@@ -1,4 +1,3 @@
 -- Laws on the definitions of `designs`.
 pub mod ByRows
 pub mod Finite
-pub mod Stored

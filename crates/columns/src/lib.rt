@@ -33,8 +33,7 @@ pub fn reading(v: &[f64], sample: Sample) -> f64
     requires { sample.0 < length v.now }
     ensures { result ≡ at v.now sample.0 }
 {
-    let i = sample.0;
-    v[i]
+    v[sample.0]
 }
 
 // The weight of a feature.
@@ -42,8 +41,7 @@ pub fn weight(w: &[f64], feature: Feature) -> f64
     requires { feature.0 < length w.now }
     ensures { result ≡ at w.now feature.0 }
 {
-    let j = feature.0;
-    w[j]
+    w[feature.0]
 }
 
 // The Lipschitz constant of a feature: the prepared numbers begin with these.
@@ -51,8 +49,7 @@ pub fn constant(prepared: &[f64], feature: Feature) -> f64
     requires { feature.0 < length prepared.now }
     ensures { result ≡ at prepared.now feature.0 }
 {
-    let j = feature.0;
-    prepared[j]
+    prepared[feature.0]
 }
 
 // What v holds for a sample becomes x.
@@ -60,8 +57,7 @@ pub fn set_reading(v: &mut [f64], sample: Sample, x: f64)
     requires { sample.0 < length v.old }
     ensures { v.new ≡ set v.old sample.0 x }
 {
-    let i = sample.0;
-    v[i] = x;
+    v[sample.0] = x;
 }
 
 // The weight of a feature becomes x.
@@ -69,22 +65,14 @@ pub fn set_weight(w: &mut [f64], feature: Feature, x: f64)
     requires { feature.0 < length w.old }
     ensures { w.new ≡ set w.old feature.0 x }
 {
-    let j = feature.0;
-    w[j] = x;
+    w[feature.0] = x;
 }
 
 // Whether every place is finite.
 pub fn all_finite(xs: &[f64]) -> bool
     ensures { result ≡ all (λ i. finite (at xs.now i)) (length xs.now) }
 {
-    let mut i = 0;
-    while i < xs.len() {
-        if is_finite(xs[i]) {} else {
-            return false;
-        }
-        i += 1;
-    }
-    true
+    xs.iter().all(|x| is_finite(*x))
 }
 
 // Where a sparse column lies among the stored entries: its first, and how many.
@@ -114,14 +102,9 @@ fn dense_dot(shape: Shape, values: &[f64], feature: Feature, v: &[f64]) -> f64
     requires { (feature.0 < shape.p) × (shape.n * shape.p ≤ length values.now) × (shape.n ≤ length v.now) }
     ensures { result ≡ def.dot (def.dense shape.n shape.p values.now) feature.0 v.now }
 {
-    let n = shape.n;
-    let p = shape.p;
-    let j = feature.0;
     let mut s = 0.0;
-    let mut i = 0;
-    while i < n {
-        s = s + values[i * p + j] * v[i];
-        i += 1;
+    for i in 0..shape.n {
+        s += values[i * shape.p + feature.0] * v[i];
     }
     s
 }
@@ -138,16 +121,10 @@ fn csc_dot(
     ensures { let X = def.csc shape.n shape.p starts.now rows.now values.now in
         result ≡ def.dot X feature.0 v.now }
 {
-    let stored = stored_of(starts, feature);
-    let start = stored.start;
-    let many = stored.many;
+    let Stored { start, many } = stored_of(starts, feature);
     let mut s = 0.0;
-    let mut k = 0;
-    while k < many {
-        let e = start + k;
-        let sample = sample_of(rows, e);
-        s = s + values[e] * reading(v, sample);
-        k += 1;
+    for e in start..start + many {
+        s += values[e] * reading(v, sample_of(rows, e));
     }
     s
 }
@@ -165,8 +142,7 @@ pub fn column_dot(
     ensures { let X = def.design shape starts.now rows.now values.now in
         result ≡ def.dot X feature.0 v.now }
 {
-    let layout = shape.layout;
-    match layout {
+    match shape.layout {
         Layout::Dense => dense_dot(shape, values, feature, v),
         Layout::Csc => csc_dot(shape, starts, rows, values, feature, v),
     }
@@ -178,13 +154,8 @@ fn dense_update(shape: Shape, values: &[f64], feature: Feature, d: f64, fit: &mu
     requires { (feature.0 < shape.p) × (shape.n * shape.p ≤ length values.now) × (shape.n ≤ length fit.old) }
     ensures { fit.new ≡ def.moved (def.dense shape.n shape.p values.now) feature.0 d fit.old }
 {
-    let samples = shape.n;
-    let p = shape.p;
-    let j = feature.0;
-    let mut i = 0;
-    while i < samples {
-        fit[i] = fit[i] + d * values[i * p + j];
-        i += 1;
+    for i in 0..shape.n {
+        fit[i] += d * values[i * shape.p + feature.0];
     }
 }
 
@@ -201,15 +172,10 @@ fn csc_update(
     ensures { let X = def.csc shape.n shape.p starts.now rows.now values.now in
         fit.new ≡ def.moved X feature.0 d fit.old }
 {
-    let stored = stored_of(starts, feature);
-    let start = stored.start;
-    let many = stored.many;
-    let mut k: usize = 0;
-    while k < many {
-        let e = start + k;
+    let Stored { start, many } = stored_of(starts, feature);
+    for e in start..start + many {
         let sample = sample_of(rows, e);
         set_reading(fit, sample, reading(fit, sample) + d * values[e]);
-        k += 1;
     }
 }
 
@@ -227,8 +193,7 @@ pub fn column_update(
     ensures { let X = def.design shape starts.now rows.now values.now in
         fit.new ≡ def.moved X feature.0 d fit.old }
 {
-    let layout = shape.layout;
-    match layout {
+    match shape.layout {
         Layout::Dense => dense_update(shape, values, feature, d, fit),
         Layout::Csc => csc_update(shape, starts, rows, values, feature, d, fit),
     }
@@ -248,16 +213,11 @@ fn csc_finite(
     ensures { let X = def.csc shape.n shape.p starts.now rows.now values.now in
         result ≡ def.finite_at X feature.0 fit.now }
 {
-    let stored = stored_of(starts, feature);
-    let start = stored.start;
-    let many = stored.many;
-    let mut k = 0;
-    while k < many {
-        let sample = sample_of(rows, start + k);
-        if is_finite(reading(fit, sample)) {} else {
+    let Stored { start, many } = stored_of(starts, feature);
+    for e in start..start + many {
+        if !is_finite(reading(fit, sample_of(rows, e))) {
             return false;
         }
-        k += 1;
     }
     true
 }
@@ -275,8 +235,7 @@ pub fn column_finite(
     ensures { let X = def.design shape starts.now rows.now values.now in
         result ≡ def.finite_at X feature.0 fit.now }
 {
-    let layout = shape.layout;
-    match layout {
+    match shape.layout {
         Layout::Dense => all_finite(fit),
         Layout::Csc => csc_finite(shape, starts, rows, values, feature, fit),
     }
@@ -288,11 +247,7 @@ pub fn column_finite(
 pub fn clear(buf: &mut [f64])
     ensures { buf.new ≡ tab (λ j. #0) (length buf.old) }
 {
-    let mut j = 0;
-    while j < buf.len() {
-        buf[j] = 0.0;
-        j += 1;
-    }
+    buf.fill(0.0);
 }
 
 // What a sample of a dense design, whose row starts at base, gets of the weights w at the features ws.
@@ -301,12 +256,9 @@ fn row_fit(values: &[f64], base: usize, ws: &[u32], w: &[f64]) -> f64
     ensures { result ≡ row_fit values.now ws.now w.now base }
 {
     let mut s = 0.0;
-    let mut k = 0;
-    while k < ws.len() {
-        let feature = feature_of(ws, k);
-        let j = feature.0;
-        s = s + weight(w, feature) * values[base + j];
-        k += 1;
+    for j in ws {
+        let j = *j as usize;
+        s += w[j] * values[base + j];
     }
     s
 }
@@ -317,10 +269,8 @@ fn dense_extrapolated_fit(values: &[f64], ws: &[u32], w: &[f64], fit: &mut [f64]
     ensures { fit.new
         ≡ def.extrapolated (def.dense (length fit.old) (length w.now) values.now) ws.now w.now }
 {
-    let mut i = 0;
-    while i < fit.len() {
-        fit[i] = row_fit(values, i * w.len(), ws, w);
-        i += 1;
+    for (i, x) in fit.iter_mut().enumerate() {
+        *x = row_fit(values, i * w.len(), ws, w);
     }
 }
 
@@ -339,9 +289,8 @@ fn csc_update_all(
     ensures { let X = def.csc shape.n shape.p starts.now rows.now values.now in
         fit.new ≡ def.moved_all X ws.now w.now fit.old }
 {
-    let mut k = 0;
-    while k < ws.len() {
-        let feature = feature_of(ws, k);
+    for j in ws {
+        let feature = Feature(*j as usize);
         csc_update(
             shape,
             starts,
@@ -351,7 +300,6 @@ fn csc_update_all(
             weight(w, feature),
             fit,
         );
-        k += 1;
     }
 }
 
@@ -388,8 +336,7 @@ pub fn extrapolated_fit(
     ensures { let X = def.design shape starts.now rows.now values.now in
         fit.new ≡ def.extrapolated X ws.now w.now }
 {
-    let layout = shape.layout;
-    match layout {
+    match shape.layout {
         Layout::Dense => dense_extrapolated_fit(values, ws, w, fit),
         Layout::Csc => csc_extrapolated_fit(shape, starts, rows, values, ws, w, fit),
     }

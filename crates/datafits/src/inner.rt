@@ -20,15 +20,7 @@ pub fn room_twice(p: usize, buf: &[f64]) -> bool
 pub fn all_below(ws: &[u32], p: usize) -> bool
     ensures { result ≡ calls.all_below ws.now p }
 {
-    let mut k = 0;
-    while k < ws.len() {
-        let j = ws[k] as usize;
-        if p <= j {
-            return false;
-        }
-        k += 1;
-    }
-    true
+    ws.iter().all(|j| (*j as usize) < p)
 }
 
 pub fn alpha_max(

@@ -8,7 +8,7 @@ ghost use Rattle.doubles.specs.Steps.{tab, largest_from};
 ghost use Rattle.designs.specs.Design as def;
 ghost use Rattle.designs.specs.Inner.Sound.{Sound, Whole};
 
-use columns::{clear, column_dot, stored_of};
+use columns::{Stored, clear, column_dot, stored_of};
 use designs::{Feature, Layout, Shape};
 use doubles::{abs, larger};
 
@@ -20,10 +20,8 @@ fn add_row(values: &[f64], base: usize, x: f64, buf: &mut [f64])
     ensures { buf.new
         ≡ tab (λ j. num.◌⊕◌ (num.at buf.old j) (num.◌⊗◌ (num.at values.now (base + j)) x)) (length buf.old) }
 {
-    let mut j = 0;
-    while j < buf.len() {
-        buf[j] = buf[j] + values[base + j] * x;
-        j += 1;
+    for (j, sum) in buf.iter_mut().enumerate() {
+        *sum += values[base + j] * x;
     }
 }
 
@@ -32,10 +30,8 @@ fn dense_dots(n: usize, values: &[f64], v: &[f64], buf: &mut [f64])
     ensures { buf.new ≡ def.dots (def.dense n (length buf.old) values.now) v.now }
 {
     clear(buf);
-    let mut i = 0;
-    while i < n {
+    for i in 0..n {
         add_row(values, i * buf.len(), v[i], buf);
-        i += 1;
     }
 }
 
@@ -52,10 +48,8 @@ fn dots_by_column(
     ensures { let X = def.design shape starts.now rows.now values.now in
         buf.new ≡ tab (λ j. def.dot X j v.now) (length buf.old) }
 {
-    let mut j = 0;
-    while j < buf.len() {
-        buf[j] = column_dot(shape, starts, rows, values, Feature(j), v);
-        j += 1;
+    for (j, product) in buf.iter_mut().enumerate() {
+        *product = column_dot(shape, starts, rows, values, Feature(j), v);
     }
 }
 
@@ -65,8 +59,7 @@ fn all_dots(shape: Shape, starts: &[u32], rows: &[u32], values: &[f64], v: &[f64
     ensures { let X = def.design shape starts.now rows.now values.now in
         buf.new ≡ def.dots X v.now }
 {
-    let layout = shape.layout;
-    match layout {
+    match shape.layout {
         Layout::Dense => dense_dots(shape.n, values, v, buf),
         Layout::Csc => dots_by_column(shape, starts, rows, values, v, buf),
     }
@@ -88,10 +81,8 @@ fn finish(n: usize, prepared: &[f64], from: usize, buf: &mut [f64])
     ensures { buf.new
         ≡ tab (λ j. def.gradient_from (num.at buf.old j) (num.at prepared.now (from + j)) n) (length buf.old) }
 {
-    let mut j = 0;
-    while j < buf.len() {
-        buf[j] = gradient_from(buf[j], prepared[from + j], n);
-        j += 1;
+    for (j, x) in buf.iter_mut().enumerate() {
+        *x = gradient_from(*x, prepared[from + j], n);
     }
 }
 
@@ -123,10 +114,8 @@ fn add_squares(values: &[f64], base: usize, buf: &mut [f64])
         buf.new
         ≡ tab (λ j. num.◌⊕◌ (num.at buf.old j) (num.◌⊗◌ (num.at values (base + j)) (num.at values (base + j)))) (length buf.old) }
 {
-    let mut j = 0;
-    while j < buf.len() {
-        buf[j] = buf[j] + values[base + j] * values[base + j];
-        j += 1;
+    for (j, sum) in buf.iter_mut().enumerate() {
+        *sum += values[base + j] * values[base + j];
     }
 }
 
@@ -135,10 +124,8 @@ fn dense_squares(n: usize, values: &[f64], buf: &mut [f64])
     ensures { buf.new ≡ tab (def.squares (def.dense n (length buf.old) values.now)) (length buf.old) }
 {
     clear(buf);
-    let mut i = 0;
-    while i < n {
+    for i in 0..n {
         add_squares(values, i * buf.len(), buf);
-        i += 1;
     }
 }
 
@@ -148,15 +135,10 @@ fn csc_square(shape: Shape, starts: &[u32], rows: &[u32], values: &[f64], featur
     ensures { let X = def.csc shape.n shape.p starts.now rows.now values.now in
         result ≡ def.squares X feature.0 }
 {
-    let stored = stored_of(starts, feature);
-    let start = stored.start;
-    let many = stored.many;
+    let Stored { start, many } = stored_of(starts, feature);
     let mut s = 0.0;
-    let mut k = 0;
-    while k < many {
-        let e = start + k;
-        s = s + values[e] * values[e];
-        k += 1;
+    for x in &values[start..start + many] {
+        s += *x * *x;
     }
     s
 }
@@ -166,10 +148,8 @@ fn csc_squares(shape: Shape, starts: &[u32], rows: &[u32], values: &[f64], buf: 
     ensures { let X = def.csc shape.n shape.p starts.now rows.now values.now in
         buf.new ≡ tab (def.squares X) (length buf.old) }
 {
-    let mut j = 0;
-    while j < buf.len() {
-        buf[j] = csc_square(shape, starts, rows, values, Feature(j));
-        j += 1;
+    for (j, square) in buf.iter_mut().enumerate() {
+        *square = csc_square(shape, starts, rows, values, Feature(j));
     }
 }
 
@@ -178,8 +158,7 @@ fn all_squares(shape: Shape, starts: &[u32], rows: &[u32], values: &[f64], buf: 
     ensures { let X = def.design shape starts.now rows.now values.now in
         buf.new ≡ tab (def.squares X) shape.p }
 {
-    let layout = shape.layout;
-    match layout {
+    match shape.layout {
         Layout::Dense => dense_squares(shape.n, values, buf),
         Layout::Csc => csc_squares(shape, starts, rows, values, buf),
     }
@@ -191,10 +170,8 @@ fn divide(n: usize, buf: &mut [f64])
     ensures { buf.new ≡ tab (λ j. num.◌⊘◌ (num.at buf.old j) (num.count n)) (length buf.old) }
 {
     let m = n as f64;
-    let mut j = 0;
-    while j < buf.len() {
-        buf[j] = buf[j] / m;
-        j += 1;
+    for x in buf {
+        *x /= m;
     }
 }
 
@@ -232,10 +209,8 @@ fn largest_abs(xs: &[f64]) -> f64
     ensures { result ≡ largest_from num.#0 (λ j. num.abs (num.at xs.now j)) (length xs.now) }
 {
     let mut v = 0.0;
-    let mut j = 0;
-    while j < xs.len() {
-        v = larger(v, abs(xs[j]));
-        j += 1;
+    for x in xs {
+        v = larger(v, abs(*x));
     }
     v
 }
@@ -254,6 +229,5 @@ pub fn alpha_max(
         (result ≡ def.alpha_max X y.now) × (xty.new ≡ def.dots X y.now) }
 {
     all_dots(shape, starts, rows, values, y, xty);
-    let v = largest_abs(xty);
-    v / (shape.n as f64)
+    largest_abs(xty) / (shape.n as f64)
 }

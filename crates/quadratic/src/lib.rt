@@ -68,8 +68,15 @@ pub fn full_grad(
     ensures { let X = def.design shape starts.now rows.now values.now in
         grad.new ≡ put grad.old 0 (def.full_gradient X fit.now (λ j. num.at prepared.now (shape.p + j))) }
 {
-    let p = shape.p;
-    passes::all_gradients(shape, starts, rows, values, prepared, fit, &mut grad[..p]);
+    passes::all_gradients(
+        shape,
+        starts,
+        rows,
+        values,
+        prepared,
+        fit,
+        &mut grad[..shape.p],
+    );
 }
 
 // The sum of the squares of what the fit leaves of the targets.
@@ -78,11 +85,9 @@ fn squared_error(y: &[f64], fit: &[f64]) -> f64
     ensures { result ≡ def.squared_error y.now fit.now (length y.now) }
 {
     let mut s = 0.0;
-    let mut i = 0;
-    while i < y.len() {
-        let r = y[i] - fit[i];
-        s = s + r * r;
-        i += 1;
+    for (i, target) in y.iter().enumerate() {
+        let r = *target - fit[i];
+        s += r * r;
     }
     s
 }
@@ -108,9 +113,15 @@ pub fn compute_extrapolated_fit(
     ensures { let X = def.design shape starts.now rows.now values.now in
         fit.new ≡ put fit.old 0 (def.extrapolated X ws.now (take shape.p w.now)) }
 {
-    let n = shape.n;
-    let p = shape.p;
-    columns::extrapolated_fit(shape, starts, rows, values, ws, &w[..p], &mut fit[..n]);
+    columns::extrapolated_fit(
+        shape,
+        starts,
+        rows,
+        values,
+        ws,
+        &w[..shape.p],
+        &mut fit[..shape.n],
+    );
 }
 
 // X'y into the first p places, and the largest of it over n.
@@ -126,6 +137,5 @@ pub fn largest_of(
     ensures { let X = def.design shape starts.now rows.now values.now in
         (result ≡ def.alpha_max X y.now) × (xty.new ≡ put xty.old 0 (def.dots X y.now)) }
 {
-    let p = shape.p;
-    passes::alpha_max(shape, starts, rows, values, y, &mut xty[..p])
+    passes::alpha_max(shape, starts, rows, values, y, &mut xty[..shape.p])
 }

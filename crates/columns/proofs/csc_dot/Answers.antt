@@ -1,32 +1,16 @@
 -- `csc_dot`: the invariant is the sum over the stored entries passed; that each row is below n comes from soundness. Assumes nothing.
-use Prim.Native.Nat.{◌-◌}
-use Rattle.doubles.proofs.Laws.Steps.{steps-none, steps-turn, steps_all}
+use Rattle.doubles.proofs.Laws.Steps.{upward-none, upward-turn, upward-end}
 use Rattle.designs.specs.Design.{dot, csc}
-use borrow.Author.Rules.{rules}
-use Rattle.columns.proofs.Laws.Stored.{stored_asked, stored-within}
 use Rattle.columns.proofs.csc_dot.Goals as goal
 
-pub stored_of-stored-requires : goal.stored_of-stored-requires
-stored_of-stored-requires c = stored_asked c.requires.1 _ c.requires.0
+pub loop-e-init : goal.loop-e-init
+loop-e-init c = upward-none _ _ _
 
-pub loop-k-init : goal.loop-k-init
-loop-k-init c =
-    (search rules, stored-within c.requires.1 _ c.requires.0 c.stored_of-stored.ensures c.requires.2, steps-none _ _)
-
-pub reading-requires : goal.reading-requires
-reading-requires c =
-    rw c.sample_of-sample.ensures (c.loop-k.invariant.1.2 _ c.loop-k-test.true)
-
-pub loop-k-preserved : goal.loop-k-preserved
-loop-k-preserved c = (
-  search rules,
-  search rules,
-  steps-turn _ _ _ _ _ c.loop-k.invariant.2
-      (rw (c.reading.ensures, c.sample_of-sample.ensures)),
-)
+pub loop-e-preserved : goal.loop-e-preserved
+loop-e-preserved c = upward-turn _ _ _ _ _ _ c.loop-e.auto.e c.loop-e.invariant (rw (c.reading.ensures, c.sample_of.ensures))
 
 pub returns : goal.returns
 unfolding dot csc
 returns c =
-    let stored = c.stored_of-stored.ensures in
-    rw (← stored.1, ← stored.0) (steps_all _ _ _ _ _ c.loop-k.invariant.2 c.loop-k.invariant.0 c.loop-k-test.false)
+    let stored = c.stored_of-start.ensures in
+    rw (← stored.1, ← stored.0) (upward-end _ _ _ _ _ _ c.loop-e.invariant c.loop-e.auto.e-end c.loop-e-test.false)

@@ -1,15 +1,11 @@
 -- `csc_update_all`: the invariant is the definition's loop over the features passed. Assumes nothing.
 use mathlib.Core.Path.{◌≡◌}
-use Prim.Native.Nat.{◌≤◌, ◌-◌}
-use lib.ListN.{length, get_or}
+use lib.ListN.{get_or}
 use Rattle.doubles.specs.Num.{at}
 use Rattle.doubles.specs.Steps.{steps}
 use Rattle.designs.specs.Design.{csc, moved}
 use Rattle.columns.proofs.csc_update_all.Given as goal
 
-abbrev pub invariant-loop-k : goal.invariant-loop-k
-invariant-loop-k l = (l.k ≤ length l.ws) × (length l.fit ≡ l.shape.n)
-    × (l.fit ≡ steps (λ i. moved (csc l.shape.n l.shape.p l.starts l.rows l.values) (get_or l.ws i 0) (at l.w (get_or l.ws i 0))) l.k l.initial.fit)
-
-abbrev pub decreases-loop-k : goal.decreases-loop-k
-decreases-loop-k l = length l.ws - l.k
+abbrev pub invariant-loop-j : goal.invariant-loop-j
+invariant-loop-j l =
+    l.fit ≡ steps (λ i. moved (csc l.shape.n l.shape.p l.starts l.rows l.values) (get_or l.ws i 0) (at l.w (get_or l.ws i 0))) l.j-index l.initial.fit

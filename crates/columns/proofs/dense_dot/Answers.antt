@@ -1,37 +1,14 @@
 -- `dense_dot`: the invariant is the sum over the samples passed. Assumes nothing.
-use Prim.Native.Nat.{◌<◌, ◌-◌, ◌+◌, ◌*◌}
-use lib.ListN.{length}
-use native.Mathlib.Omega.{arith}
-use Rattle.doubles.specs.Num.{at}
 use Rattle.doubles.proofs.Laws.Steps.{steps-none, steps-more, steps_all}
 use Rattle.designs.specs.Design.{dot, dense}
-use Rattle.designs.proofs.Laws.Layouts.{cell}
-use borrow.Author.Rules.{rules}
 use Rattle.columns.proofs.dense_dot.Goals as goal
-use Rattle.columns.proofs.dense_dot.Goals.{In-loop-i}
-
-inside : (c : In-loop-i) → let a = c.args in
-    c.loop-i.i * a.shape.p + a.feature.0 < length a.values.now
-inside c = cell _ _ _ _ _ c.loop-i-test.true c.loop-i.invariant.1 c.loop-i.invariant.2
 
 pub loop-i-init : goal.loop-i-init
-loop-i-init c = (search rules, search rules, search rules, search rules, steps-none _ _)
-
-pub overflow_mul-s : goal.overflow_mul-s
-overflow_mul-s c = omega (arith, inside (goal.at.overflow_mul-s c).In-loop-i)
-
-pub overflow_add-s : goal.overflow_add-s
-overflow_add-s c = omega (arith, inside (goal.at.overflow_add-s c).In-loop-i)
-
-pub offset_bounds-values-i : goal.offset_bounds-values-i
-offset_bounds-values-i c = omega (arith, inside (goal.at.offset_bounds-values-i c).In-loop-i)
-
-pub bounds-values-i : goal.bounds-values-i
-bounds-values-i c = inside (goal.at.bounds-values-i c).In-loop-i
+loop-i-init c = steps-none _ _
 
 pub loop-i-preserved : goal.loop-i-preserved
-loop-i-preserved c = (search rules, search rules, search rules, search rules, steps-more _ _ _ _ c.loop-i.invariant.4)
+loop-i-preserved c = steps-more _ _ _ _ c.loop-i.invariant
 
 pub returns : goal.returns
 unfolding dot dense
-returns c = steps_all _ _ _ _ _ c.loop-i.invariant.4 c.loop-i.invariant.0 c.loop-i-test.false
+returns c = steps_all _ _ _ _ _ c.loop-i.invariant c.loop-i.auto.i-end c.loop-i-test.false

@@ -9,7 +9,7 @@ use native.Mathlib.Numerals.{add-one}
 use native.Mathlib.Nat.{le_antisymm, add-zero, add-suc}
 use native.Mathlib.Omega.{arith}
 use borrow.Author.Count.{below_more}
-use lib.ListN.{length, get_or, set, drop, length-append, drop_of_length-le, get_or-append}
+use lib.ListN.{length, get_or, set, drop, replicate, length-append, drop_of_length-le, get_or-append}
 use lib.Seq.{drop-cons, get_or_at, set_at, get_or-set_same, get_or-set_other}
 use Rattle.doubles.specs.Num.{pick, ◌and◌}
 use Rattle.doubles.specs.Steps.{steps, tab, all, upward, downward, Stage, going, stopped, bad, next, upto, over}
@@ -194,3 +194,51 @@ module _ {A : Type 0} (f : ℕ → A → Stage A) (a₀ : A) where
 
   pub upto_false : (k n : ℕ) (a b : A) (r : Bool) → going a ≡ upto f k a₀ → pick r (going b) bad ≡ f k a → r ≡ false → k < n → bad ≡ upto f n a₀
   upto_false k n a b r e q t h = upto-over k n a bad e (rw t at q) refl h
+
+-- ---- a loop over the places a, .. a + m - 1: at the end it is m turns
+module _ {A : Type 0} (f : ℕ → A → A) (a : ℕ) (s : A) where
+  -- a turn, with what it left under a name of its own
+  pub upward-turn : (i : ℕ) (b t : A) → a ≤ i → b ≡ upward f a i s → t ≡ f i b → t ≡ upward f a (i + 1) s
+  upward-turn i b t h e q = q ∙ upward-more f a s i b h e
+
+  pub upward-end : (m i : ℕ) (b : A) → b ≡ upward f a i s → (a ≤ a + m → i ≤ a + m) → a + m ≤ i → b ≡ steps (λ k. f (a + k)) m s
+  unfolding upward
+  upward-end m i b e p q =
+      let d : i - a ≡ m = omega (arith, p (omega arith)) in
+      rw d at e
+
+-- the same of a test that all places pass, or one does not
+module _ (g : ℕ → Bool) (a : ℕ) where
+  pub upward_passed : (i : ℕ) → a ≤ i → true ≡ upward (λ k b. b and g k) a i true → g i ≡ true → true ≡ upward (λ k b. b and g k) a (i + 1) true
+  unfolding ◌and◌
+  upward_passed i h e q = sym q ∙ upward-more (λ k b. b and g k) a true i true h e
+
+  pub upward_broken : (m i : ℕ) → a ≤ i → i < a + m → true ≡ upward (λ k b. b and g k) a i true → g i ≡ false → false ≡ all (λ k. g (a + k)) m
+  unfolding upward
+  upward_broken m i h l e q =
+      let j : a + (i - a) ≡ i = omega arith in
+      all_broken (λ k. g (a + k)) (i - a) m e (rw j q) (omega arith)
+
+-- ---- what the library says, as a table or a test
+replicate-turn : {A : Type 0} (x : A) (n : ℕ) → replicate n x ++ (x ∷ []) ≡ x ∷ replicate n x
+replicate-turn x zero = refl
+replicate-turn x (suc n) = ap (λ l. x ∷ l) (replicate-turn x n)
+
+pub tab-replicate : {A : Type 0} (x : A) (n : ℕ) → replicate n x ≡ tab (λ j. x) n
+unfolding steps
+tab-replicate x zero = refl
+tab-replicate x (suc n) = sym (replicate-turn x n) ∙ ap (λ l. l ++ (x ∷ [])) (tab-replicate x n)
+
+-- a test is true just where each place passes
+pub all_where : (g : ℕ → Bool) (n : ℕ) → ((i : ℕ) → i < n → g i ≡ true) → all g n ≡ true
+unfolding steps ◌and◌
+all_where g zero h = refl
+all_where g (suc n) h = rw (all_where g n (λ i l. h i (omega arith))) (h n (omega arith))
+
+pub all_just : (g : ℕ → Bool) (n : ℕ) (r : Bool) → (r ≡ true → (i : ℕ) → i < n → g i ≡ true) → (((i : ℕ) → i < n → g i ≡ true) → r ≡ true) → r ≡ all g n
+all_just g n true h k = sym (all_where g n (h refl))
+all_just g n false h k = go (all g n) refl
+  where
+    go : (b : Bool) → all g n ≡ b → false ≡ all g n
+    go false e = sym e
+    go true e = absurd (false≢true (k (all-each g n e)))

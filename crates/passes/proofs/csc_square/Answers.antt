@@ -1,23 +1,39 @@
 -- `csc_square`: the invariant is the sum over the stored entries passed. Assumes nothing.
-use Prim.Native.Nat.{◌-◌}
-use Rattle.doubles.proofs.Laws.Steps.{steps-none, steps-more, steps_all}
+use mathlib.Core.Path.{◌≡◌, ap, ◌∙◌}
+use mathlib.Core.List.{List}
+use Prim.Native.Nat.{ℕ, ◌+◌, ◌-◌, ◌≤◌, ◌<◌}
+use native.Mathlib.Omega.{arith}
+use lib.Ieee.{Float, nan}
+use lib.ListN.{length, take, drop}
+use Rattle.std.proofs.lemmas.List.{get_or-take, get_or-drop, length-take-le, length-drop}
+use Rattle.doubles.specs.Num.{◌⊕◌, ◌⊗◌, #0, at}
+use Rattle.doubles.specs.Steps.{sum}
+use Rattle.doubles.proofs.Laws.Steps.{steps-none, steps-more, steps_all, steps-same}
 use Rattle.designs.specs.Design.{squares, csc}
-use Rattle.columns.proofs.Laws.Stored.{stored_asked, stored-end}
-use borrow.Author.Rules.{rules}
+use Rattle.designs.proofs.Laws.Layouts.{column-end}
 use Rattle.passes.proofs.csc_square.Goals as goal
 
-pub stored_of-stored-requires : goal.stored_of-stored-requires
-stored_of-stored-requires c = stored_asked c.requires.1 _ c.requires.0
+-- the squares of a part of a list are those of the list from there on
+part-squares : (l : List Float) (a m i : ℕ) (s : Float) → a + m ≤ length l → let part = take (a + m - a) (drop a l) in
+    s ≡ sum (λ k. at part k ⊗ at part k) i → i ≤ length part → length part ≤ i → s ≡ sum (λ k. at l (a + k) ⊗ at l (a + k)) m
+part-squares l a m i s h e p q =
+    let part = take (a + m - a) (drop a l) in
+    let len : length part ≡ a + m - a = length-take-le (a + m - a) (drop a l) (omega (arith, length-drop a l)) in
+    let here : (k : ℕ) → k < m → at part k ≡ at l (a + k) = λ k t. get_or-take (a + m - a) (drop a l) k nan (omega arith) ∙ get_or-drop a l k nan in
+    let lo : i ≤ m = omega arith in
+    let hi : m ≤ i = omega arith in
+    steps_all _ _ _ _ _ e lo hi ∙ steps-same _ _ m #0 (λ k t b. ap (λ (x : Float). b ⊕ x ⊗ x) (here k t))
 
-pub loop-k-init : goal.loop-k-init
-loop-k-init c =
-    (search rules, stored-end c.requires.1 _ c.requires.0 c.stored_of-stored.ensures, steps-none _ _)
+pub loop-x-init : goal.loop-x-init
+loop-x-init c = steps-none _ _
 
-pub loop-k-preserved : goal.loop-k-preserved
-loop-k-preserved c = (search rules, search rules, steps-more _ _ _ _ c.loop-k.invariant.2)
+pub loop-x-preserved : goal.loop-x-preserved
+loop-x-preserved c = steps-more _ _ _ _ c.loop-x.invariant
 
 pub returns : goal.returns
 unfolding squares csc
 returns c =
-    let stored = c.stored_of-stored.ensures in
-    rw (← stored.1, ← stored.0) (steps_all _ _ _ _ _ c.loop-k.invariant.2 c.loop-k.invariant.0 c.loop-k-test.false)
+    let stored = c.stored_of-start.ensures in
+    let end : c.stored_of-start.result.start + c.stored_of-start.result.many ≤ length c.args.values.now =
+    rw (stored.0, stored.1) (column-end c.requires.1 _ c.requires.0) in
+    rw (← stored.1, ← stored.0) (part-squares _ _ _ _ _ end c.loop-x.invariant c.loop-x.auto.x-index-end c.loop-x-test.false)

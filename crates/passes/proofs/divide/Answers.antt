@@ -1,26 +1,20 @@
 -- `divide`: each place by itself, upward. Assumes nothing.
 use mathlib.Core.Path.{refl}
-use Prim.Native.Nat.{◌<◌, ◌-◌}
+use Prim.Native.Nat.{◌<◌}
 use lib.Ieee.{nan}
 use lib.ListN.{length}
-use Rattle.doubles.specs.Num.{count, at}
-use Rattle.doubles.specs.Steps.{tab}
 use Rattle.doubles.proofs.Laws.Steps.{tab-none, tab_here, tab-more, tab-all}
 use native.Mathlib.Omega.{arith}
-use Rattle.designs.proofs.Laws.Layouts.{counted}
 use borrow.Author.Rules.{rules}
 use Rattle.passes.proofs.divide.Goals as goal
 
-pub int_to_float-m : goal.int_to_float-m
-int_to_float-m c = search (rules, counted)
+pub loop-x-init : goal.loop-x-init
+loop-x-init c = tab-none _ _
 
-pub loop-j-init : goal.loop-j-init
-loop-j-init c = (search rules, search rules, tab-none _ _)
-
-pub loop-j-preserved : goal.loop-j-preserved
-loop-j-preserved c =
-    let h : c.loop-j.j < length c.args.buf.now = omega arith in
-    (search rules, search rules, rw (tab_here _ _ _ _ c.loop-j.invariant.2 nan h) (tab-more _ _ _ _ c.loop-j.invariant.2 _ h refl))
+pub loop-x-preserved : goal.loop-x-preserved
+loop-x-preserved c =
+    let h : c.loop-x.x-index < length c.args.buf.now = omega arith in
+    rw (tab_here _ _ _ _ c.loop-x.invariant nan h) (tab-more _ _ _ _ c.loop-x.invariant _ h refl)
 
 pub returns : goal.returns
-returns c = tab-all _ _ _ _ c.loop-j.invariant.2 _ refl c.loop-j.invariant.0 (search rules)
+returns c = tab-all _ _ _ _ c.loop-x.invariant _ refl (search rules) (search rules)

@@ -1,15 +1,10 @@
 -- `divide`: each place by itself, upward. Assumes nothing.
 use mathlib.Core.Path.{◌≡◌}
-use Prim.Native.Nat.{◌≤◌, ◌-◌}
 use mathlib.Core.List.{◌++◌}
-use lib.ListN.{length, drop}
+use lib.ListN.{drop}
 use Rattle.doubles.specs.Num.{◌⊘◌, count, at}
 use Rattle.doubles.specs.Steps.{tab}
 use Rattle.passes.proofs.divide.Given as goal
 
-abbrev pub invariant-loop-j : goal.invariant-loop-j
-invariant-loop-j l = (l.j ≤ length l.initial.buf) × (length l.buf ≡ length l.initial.buf)
-    × (l.buf ≡ tab (λ k. at l.initial.buf k ⊘ count l.n) l.j ++ drop l.j l.initial.buf)
-
-abbrev pub decreases-loop-j : goal.decreases-loop-j
-decreases-loop-j l = length l.initial.buf - l.j
+abbrev pub invariant-loop-x : goal.invariant-loop-x
+invariant-loop-x l = l.x-items ≡ tab (λ k. at l.initial.x-items k ⊘ count l.n) l.x-index ++ drop l.x-index l.initial.x-items

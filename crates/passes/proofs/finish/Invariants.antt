@@ -1,16 +1,13 @@
 -- `finish`: each product by itself becomes its gradient, upward. Assumes nothing.
 use mathlib.Core.Path.{◌≡◌}
-use Prim.Native.Nat.{◌≤◌, ◌-◌, ◌+◌}
+use Prim.Native.Nat.{◌+◌}
 use mathlib.Core.List.{◌++◌}
-use lib.ListN.{length, drop}
+use lib.ListN.{drop}
 use Rattle.doubles.specs.Num.{at}
 use Rattle.doubles.specs.Steps.{tab}
 use Rattle.designs.specs.Design.{gradient_from}
 use Rattle.passes.proofs.finish.Given as goal
 
 abbrev pub invariant-loop-j : goal.invariant-loop-j
-invariant-loop-j l = (l.j ≤ length l.initial.buf) × (length l.buf ≡ length l.initial.buf)
-    × (l.buf ≡ tab (λ k. gradient_from (at l.initial.buf k) (at l.prepared (l.from + k)) l.n) l.j ++ drop l.j l.initial.buf)
-
-abbrev pub decreases-loop-j : goal.decreases-loop-j
-decreases-loop-j l = length l.initial.buf - l.j
+invariant-loop-j l =
+    l.buf ≡ tab (λ k. gradient_from (at l.initial.buf k) (at l.prepared (l.from + k)) l.n) l.j ++ drop l.j l.initial.buf

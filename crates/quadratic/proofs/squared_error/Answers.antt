@@ -1,16 +1,15 @@
 -- `squared_error`: the invariant is the sum over the samples passed. Assumes nothing.
-use Prim.Native.Nat.{◌-◌}
 use Rattle.doubles.proofs.Laws.Steps.{steps-none, steps-more, steps_all}
 use Rattle.designs.specs.Design.{squared_error}
 use borrow.Author.Rules.{rules}
 use Rattle.quadratic.proofs.squared_error.Goals as goal
 
 pub loop-i-init : goal.loop-i-init
-loop-i-init c = (search rules, steps-none _ _)
+loop-i-init c = steps-none _ _
 
 pub loop-i-preserved : goal.loop-i-preserved
-loop-i-preserved c = (search rules, steps-more _ _ _ _ c.loop-i.invariant.1)
+loop-i-preserved c = steps-more _ _ _ _ c.loop-i.invariant
 
 pub returns : goal.returns
 unfolding squared_error
-returns c = steps_all _ _ _ _ _ c.loop-i.invariant.1 c.loop-i.invariant.0 c.loop-i-test.false
+returns c = steps_all _ _ _ _ _ c.loop-i.invariant (search rules) (search rules)
