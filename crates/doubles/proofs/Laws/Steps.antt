@@ -1,6 +1,6 @@
 -- Laws of `steps`, `tab`, `upward`, `downward` and `upto`, for the loops that compute them: the invariant is the prefix.
 -- Assumes nothing.
-use mathlib.Core.Path.{◌≡◌, refl, sym, ◌∙◌}
+use mathlib.Core.Path.{◌≡◌, refl, sym, ◌∙◌, ap}
 use mathlib.Core.Bool.{Bool, true, false, false≢true}
 use mathlib.Core.List.{List, [], ◌∷◌, ◌++◌, append_assoc, append-nil}
 use Prim.Native.Nat.{ℕ, zero, suc, ◌+◌, ◌-◌, ◌≤◌, ◌<◌}
@@ -51,6 +51,7 @@ module _ {A : Type 0} (f : ℕ → A → A) (a : ℕ) (s : A) where
       let j : a + (i - a) ≡ i = omega arith in
       rw (d, ← steps-more (λ k. f (a + k)) s (i - a) b e, j)
 
+  -- the same, with what the turn left under a name of its own
   pub upward-turn : (i : ℕ) (b t : A) → a ≤ i → b ≡ upward f a i s → t ≡ f i b → t ≡ upward f a (i + 1) s
   upward-turn i b t h e q = q ∙ upward-more i b h e
 
@@ -197,10 +198,6 @@ module _ {A : Type 0} (f : ℕ → A → Stage A) (a₀ : A) where
 
 -- ---- a loop over the places a, .. a + m - 1: at the end it is m turns
 module _ {A : Type 0} (f : ℕ → A → A) (a : ℕ) (s : A) where
-  -- a turn, with what it left under a name of its own
-  pub upward-turn : (i : ℕ) (b t : A) → a ≤ i → b ≡ upward f a i s → t ≡ f i b → t ≡ upward f a (i + 1) s
-  upward-turn i b t h e q = q ∙ upward-more f a s i b h e
-
   pub upward-end : (m i : ℕ) (b : A) → b ≡ upward f a i s → (a ≤ a + m → i ≤ a + m) → a + m ≤ i → b ≡ steps (λ k. f (a + k)) m s
   unfolding upward
   upward-end m i b e p q =
