@@ -1,5 +1,5 @@
 -- `keep_first`: the invariant is that the places filled hold the features with zero weight passed. Assumes nothing.
-use Prim.Native.Nat.{◌-◌, ◌<◌}
+use Prim.Native.Nat.{◌<◌}
 use lib.ListN.{length}
 use Rattle.selection.proofs.Laws.Select.{first-none, first-inside, first-turn, first-all}
 use borrow.Author.Rules.{rules}
