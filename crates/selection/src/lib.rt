@@ -122,12 +122,13 @@ fn keep_first(w: &[f64], kept: &mut [u32]) -> usize
     ensures { (result ≤ length w.now) × ((v : List Float) → order.Same kept.new (def.others v w.now result)) }
 {
     let mut c = 0;
-    let mut j = 0;
-    while c < kept.len() {
-        c = keep(w[j], j, c, kept);
-        j += 1;
+    for (j, x) in w.iter().enumerate() {
+        if c == kept.len() {
+            return j;
+        }
+        c = keep(*x, j, c, kept);
     }
-    j
+    w.len()
 }
 
 // Feature j of weight w: if that is zero and it stands ahead of the root, it takes the root's place and sinks.
