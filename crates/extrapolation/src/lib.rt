@@ -26,10 +26,8 @@ fn total(z: [f64; 10], depth: usize) -> f64
     ensures { result ≡ sum (num.at z) depth }
 {
     let mut s = 0.0;
-    let mut k = 0;
-    while k < depth {
-        s = s + z[k];
-        k += 1;
+    for k in 0..depth {
+        s += z[k];
     }
     s
 }
@@ -41,10 +39,8 @@ fn coefficients(z: [f64; 10], depth: usize) -> [f64; 10]
 {
     let s = total(z, depth);
     let mut c = [0.0; 10];
-    let mut k = 0;
-    while k < depth {
+    for k in 0..depth {
         c[k] = z[k] / s;
-        k += 1;
     }
     c
 }
@@ -56,11 +52,9 @@ fn write_candidate(kept: &[f64], shape: Kept, c: [f64; 10], ws: &[u32], w: &mut 
     ensures { w.new ≡ ext.candidate shape.depth shape.p ws.now kept.now c }
 {
     clear(w);
-    let mut i = 0;
-    while i < ws.len() {
+    for i in 0..ws.len() {
         let feature = feature_of(ws, i);
         set_weight(w, feature, combined(kept, shape, c, i));
-        i += 1;
     }
 }
 
@@ -93,11 +87,7 @@ fn copy(from: &[f64], to: &mut [f64])
     requires { length to.old ≡ length from.now }
     ensures { to.new ≡ from.now }
 {
-    let mut i = 0;
-    while i < to.len() {
-        to[i] = from[i];
-        i += 1;
-    }
+    to.copy_from_slice(from);
 }
 
 // ---- the step
