@@ -73,13 +73,7 @@ fn is_better(y: &[f64], penalty: Penalty, w: &[f64], fit: &[f64], before: f64) -
     ensures { let smaller = lt (ext.objective_of penalty y.now w.now fit.now) before in
         result ≡ num.◌and◌ smaller (num.◌and◌ (ext.all_finite w.now) (ext.all_finite fit.now)) }
 {
-    if objective(y, penalty, w, fit) < before {} else {
-        return false;
-    }
-    if all_finite(w) {} else {
-        return false;
-    }
-    all_finite(fit)
+    objective(y, penalty, w, fit) < before && all_finite(w) && all_finite(fit)
 }
 
 // The places of one slice become those of another.
@@ -112,10 +106,10 @@ fn lay_out(n: usize, shape: Kept) -> Parts
     let old = (2 * shape.depth + 2) * shape.p;
     let fit = old + shape.p;
     Parts {
-        kept: kept,
+        kept,
         until: kept + (shape.depth + 1) * shape.p,
-        old: old,
-        fit: fit,
+        old,
+        fit,
         end: fit + n,
     }
 }
@@ -139,10 +133,7 @@ fn make_candidate(
         × (scratch.new ≡ put (put scratch.old (places.old_at shape depth) w.old) (places.fit_at shape depth) new)
         × (length new ≡ shape.n) }
 {
-    let kept = Kept {
-        depth: depth,
-        p: shape.p,
-    };
+    let kept = Kept { depth, p: shape.p };
     let at = lay_out(shape.n, kept);
     let a = at.kept;
     let b = at.until;
@@ -201,10 +192,7 @@ fn try_candidate(
         ((q : List _) → places.tried_of result w.new fit.new ≡ places.tried_from (T q) y.now depth ws.now kept z before)
         × (places.kept_in shape depth scratch.new ≡ kept) }
 {
-    let kept = Kept {
-        depth: depth,
-        p: shape.p,
-    };
+    let kept = Kept { depth, p: shape.p };
     let at = lay_out(shape.n, kept);
     let o = at.old;
     let f = at.fit;
@@ -237,15 +225,12 @@ fn extrapolate(
         ((q : List _) → places.tried_of result w.new fit.new ≡ ext.extrapolate (T q) y.now depth ws.now kept before)
         × (places.kept_in shape depth scratch.new ≡ kept) }
 {
-    let kept = Kept {
-        depth: depth,
-        p: shape.p,
-    };
+    let kept = Kept { depth, p: shape.p };
     let at = lay_out(shape.n, kept);
     let a = at.kept;
     let b = at.until;
     let m = eliminate(system(&scratch[a..b], kept, ws.len()), depth);
-    if is_regular(m, depth) {} else {
+    if !is_regular(m, depth) {
         return 0;
     }
     let z = read_off(m, depth);
@@ -279,15 +264,12 @@ pub fn anderson_accel(
         × (places.kept_in shape depth scratch.new ≡ kept) }
 {
     let row = e % (depth + 1);
-    let kept = Kept {
-        depth: depth,
-        p: shape.p,
-    };
+    let kept = Kept { depth, p: shape.p };
     let at = lay_out(shape.n, kept);
     let a = at.kept;
     let b = at.until;
     keep(ws, w, row * shape.p, &mut scratch[a..b]);
-    if row == depth {} else {
+    if row != depth {
         return 0;
     }
     extrapolate(
