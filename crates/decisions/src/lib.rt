@@ -26,16 +26,13 @@ use penalties::inner::{alpha_in_range, check_range, with_alpha};
 fn depth_in_range(settings: Settings) -> bool
     ensures { result ≡ call.depth_legal settings }
 {
-    if settings.extrapolate {
-        return both(1 <= settings.depth, settings.depth <= 10);
-    }
-    true
+    !settings.extrapolate || 1 <= settings.depth && settings.depth <= 10
 }
 
 fn start_in_range(settings: Settings) -> bool
     ensures { result ≡ call.start_legal settings }
 {
-    both(1 <= settings.start, settings.start <= 8192)
+    1 <= settings.start && settings.start <= 8192
 }
 
 // 2, for the first setting that is outside its range; its place is the setting's index, and the penalty's two come last.
@@ -48,17 +45,16 @@ pub fn check_settings(settings: Settings) -> Verdict
     if 100000 < settings.epochs {
         return refused(2, 1);
     }
-    if start_in_range(settings) {} else {
+    if !start_in_range(settings) {
         return refused(2, 2);
     }
-    if depth_in_range(settings) {} else {
+    if !depth_in_range(settings) {
         return refused(2, 3);
     }
-    if alpha_in_range(settings.tolerance) {} else {
+    if !alpha_in_range(settings.tolerance) {
         return refused(2, 4);
     }
-    let penalty = settings.penalty;
-    check_range(penalty)
+    check_range(settings.penalty)
 }
 
 // 1, then the settings' 2: what a solve tests before it looks at any room.
@@ -74,7 +70,7 @@ pub fn check_early(
         verdict_of result ≡ call.early_fault g settings }
 {
     let fits = y.len() == shape.n;
-    if both(sizes_agree(shape, starts, rows, values), fits) {} else {
+    if !both(sizes_agree(shape, starts, rows, values), fits) {
         return refused(1, 0);
     }
     check_settings(settings)
@@ -97,16 +93,7 @@ pub fn scratch_room(shape: Shape, settings: Settings) -> usize
 fn is_usable_at(constant: f64, xty: f64) -> bool
     ensures { result ≡ prep.usable constant xty }
 {
-    if is_finite(constant) {} else {
-        return false;
-    }
-    if constant == 0.0 {
-        return is_finite(xty);
-    }
-    if is_finite(1.0 / constant) {} else {
-        return false;
-    }
-    is_finite(xty)
+    is_finite(constant) && (constant == 0.0 || is_finite(1.0 / constant)) && is_finite(xty)
 }
 
 // Whether all columns are usable.
@@ -114,12 +101,10 @@ pub fn is_usable(prepared: &[f64], p: usize) -> bool
     requires { (p ≤ 8192) × (length prepared.now ≡ p + p) }
     ensures { result ≡ prep.all_usable p prepared.now }
 {
-    let mut j = 0;
-    while j < p {
-        if is_usable_at(prepared[j], prepared[p + j]) {} else {
+    for j in 0..p {
+        if !is_usable_at(prepared[j], prepared[p + j]) {
             return false;
         }
-        j += 1;
     }
     true
 }
@@ -128,13 +113,7 @@ pub fn is_usable(prepared: &[f64], p: usize) -> bool
 fn is_acceptable(constant: f64, xty: f64) -> bool
     ensures { result ≡ call.acceptable constant xty }
 {
-    if is_usable_at(constant, xty) {} else {
-        return false;
-    }
-    if constant < 0.0 {
-        return false;
-    }
-    true
+    is_usable_at(constant, xty) && !(constant < 0.0)
 }
 
 // Refusal 10 at a column.
@@ -150,12 +129,10 @@ pub fn check_handed(prepared: &[f64], p: usize) -> Verdict
     requires { (p ≤ 8192) × (p + p ≤ length prepared.now) }
     ensures { verdict_of result ≡ call.handed_fault p prepared.now }
 {
-    let mut j = 0;
-    while j < p {
-        if is_acceptable(prepared[j], prepared[p + j]) {} else {
+    for j in 0..p {
+        if !is_acceptable(prepared[j], prepared[p + j]) {
             return ten_at(j);
         }
-        j += 1;
     }
     Verdict::Fine
 }
@@ -164,7 +141,7 @@ pub fn check_handed(prepared: &[f64], p: usize) -> Verdict
 pub fn start_size(start: usize, p: usize) -> usize
     ensures { result ≡ set'.smaller start p }
 {
-    if p < start { p } else { start }
+    start.min(p)
 }
 
 // ---- within one working set
@@ -173,10 +150,7 @@ pub fn start_size(start: usize, p: usize) -> usize
 pub fn is_check_due(e: usize) -> bool
     ensures { result ≡ def.checks e }
 {
-    if e == 0 {
-        return false;
-    }
-    e % 10 == 0
+    e != 0 && e % 10 == 0
 }
 
 // Whether the epochs of a working set may stop at its violation v.
@@ -204,15 +178,9 @@ pub fn status(violation: f64, tolerance: f64) -> u32
 pub fn at_alpha(settings: Settings, alpha: f64) -> Settings
     ensures { result ≡ walk.at_alpha settings alpha }
 {
-    let penalty = settings.penalty;
     Settings {
-        penalty: with_alpha(penalty, alpha),
-        tolerance: settings.tolerance,
-        start: settings.start,
-        iterations: settings.iterations,
-        epochs: settings.epochs,
-        extrapolate: settings.extrapolate,
-        depth: settings.depth,
+        penalty: with_alpha(settings.penalty, alpha),
+        ..settings
     }
 }
 
@@ -221,31 +189,20 @@ fn is_good_at(alphas: &[f64], k: usize) -> bool
     requires { k < length alphas.now }
     ensures { result ≡ walk.good_at alphas.now k }
 {
-    if alpha_in_range(alphas[k]) {} else {
-        return false;
-    }
-    if k == 0 {
-        return true;
-    }
-    alphas[k] < alphas[k - 1]
+    alpha_in_range(alphas[k]) && (k == 0 || alphas[k] < alphas[k - 1])
 }
 
 // Whether there are 1 to 64, and all are good.
 fn list_in_range(alphas: &[f64]) -> bool
     ensures { result ≡ walk.list_legal alphas.now }
 {
-    if alphas.len() < 1 {
+    if alphas.len() < 1 || 64 < alphas.len() {
         return false;
     }
-    if 64 < alphas.len() {
-        return false;
-    }
-    let mut k = 0;
-    while k < alphas.len() {
-        if is_good_at(alphas, k) {} else {
+    for k in 0..alphas.len() {
+        if !is_good_at(alphas, k) {
             return false;
         }
-        k += 1;
     }
     true
 }
@@ -264,8 +221,5 @@ pub fn check_list(alphas: &[f64]) -> Verdict
 pub fn is_wanted(report: Report, nonzero: usize, most: usize) -> bool
     ensures { result ≡ walk.wanted most report nonzero }
 {
-    if report.status == 1 {
-        return nonzero <= most;
-    }
-    false
+    report.status == 1 && nonzero <= most
 }

@@ -26,10 +26,8 @@ fn total(z: [f64; 10], depth: usize) -> f64
     ensures { result ≡ sum (num.at z) depth }
 {
     let mut s = 0.0;
-    let mut k = 0;
-    while k < depth {
-        s = s + z[k];
-        k += 1;
+    for k in 0..depth {
+        s += z[k];
     }
     s
 }
@@ -41,10 +39,8 @@ fn coefficients(z: [f64; 10], depth: usize) -> [f64; 10]
 {
     let s = total(z, depth);
     let mut c = [0.0; 10];
-    let mut k = 0;
-    while k < depth {
+    for k in 0..depth {
         c[k] = z[k] / s;
-        k += 1;
     }
     c
 }
@@ -56,11 +52,9 @@ fn write_candidate(kept: &[f64], shape: Kept, c: [f64; 10], ws: &[u32], w: &mut 
     ensures { w.new ≡ ext.candidate shape.depth shape.p ws.now kept.now c }
 {
     clear(w);
-    let mut i = 0;
-    while i < ws.len() {
+    for i in 0..ws.len() {
         let feature = feature_of(ws, i);
         set_weight(w, feature, combined(kept, shape, c, i));
-        i += 1;
     }
 }
 
@@ -79,13 +73,7 @@ fn is_better(y: &[f64], penalty: Penalty, w: &[f64], fit: &[f64], before: f64) -
     ensures { let smaller = lt (ext.objective_of penalty y.now w.now fit.now) before in
         result ≡ num.◌and◌ smaller (num.◌and◌ (ext.all_finite w.now) (ext.all_finite fit.now)) }
 {
-    if objective(y, penalty, w, fit) < before {} else {
-        return false;
-    }
-    if all_finite(w) {} else {
-        return false;
-    }
-    all_finite(fit)
+    objective(y, penalty, w, fit) < before && all_finite(w) && all_finite(fit)
 }
 
 // The places of one slice become those of another.
@@ -93,11 +81,7 @@ fn copy(from: &[f64], to: &mut [f64])
     requires { length to.old ≡ length from.now }
     ensures { to.new ≡ from.now }
 {
-    let mut i = 0;
-    while i < to.len() {
-        to[i] = from[i];
-        i += 1;
-    }
+    to.copy_from_slice(from);
 }
 
 // ---- the step
@@ -122,10 +106,10 @@ fn lay_out(n: usize, shape: Kept) -> Parts
     let old = (2 * shape.depth + 2) * shape.p;
     let fit = old + shape.p;
     Parts {
-        kept: kept,
+        kept,
         until: kept + (shape.depth + 1) * shape.p,
-        old: old,
-        fit: fit,
+        old,
+        fit,
         end: fit + n,
     }
 }
@@ -149,10 +133,7 @@ fn make_candidate(
         × (scratch.new ≡ put (put scratch.old (places.old_at shape depth) w.old) (places.fit_at shape depth) new)
         × (length new ≡ shape.n) }
 {
-    let kept = Kept {
-        depth: depth,
-        p: shape.p,
-    };
+    let kept = Kept { depth, p: shape.p };
     let at = lay_out(shape.n, kept);
     let a = at.kept;
     let b = at.until;
@@ -211,10 +192,7 @@ fn try_candidate(
         ((q : List _) → places.tried_of result w.new fit.new ≡ places.tried_from (T q) y.now depth ws.now kept z before)
         × (places.kept_in shape depth scratch.new ≡ kept) }
 {
-    let kept = Kept {
-        depth: depth,
-        p: shape.p,
-    };
+    let kept = Kept { depth, p: shape.p };
     let at = lay_out(shape.n, kept);
     let o = at.old;
     let f = at.fit;
@@ -247,15 +225,12 @@ fn extrapolate(
         ((q : List _) → places.tried_of result w.new fit.new ≡ ext.extrapolate (T q) y.now depth ws.now kept before)
         × (places.kept_in shape depth scratch.new ≡ kept) }
 {
-    let kept = Kept {
-        depth: depth,
-        p: shape.p,
-    };
+    let kept = Kept { depth, p: shape.p };
     let at = lay_out(shape.n, kept);
     let a = at.kept;
     let b = at.until;
     let m = eliminate(system(&scratch[a..b], kept, ws.len()), depth);
-    if is_regular(m, depth) {} else {
+    if !is_regular(m, depth) {
         return 0;
     }
     let z = read_off(m, depth);
@@ -289,15 +264,12 @@ pub fn anderson_accel(
         × (places.kept_in shape depth scratch.new ≡ kept) }
 {
     let row = e % (depth + 1);
-    let kept = Kept {
-        depth: depth,
-        p: shape.p,
-    };
+    let kept = Kept { depth, p: shape.p };
     let at = lay_out(shape.n, kept);
     let a = at.kept;
     let b = at.until;
     keep(ws, w, row * shape.p, &mut scratch[a..b]);
-    if row == depth {} else {
+    if row != depth {
         return 0;
     }
     extrapolate(

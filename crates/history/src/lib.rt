@@ -24,10 +24,8 @@ pub fn keep(ws: &[u32], w: &[f64], base: usize, kept: &mut [f64])
     requires { ((k : ℕ) → k < length ws.now → get_or ws.now k 0 < length w.now) × (base + length ws.now ≤ length kept.old) }
     ensures { kept.new ≡ put kept.old base (ext.gathered ws.now w.now) }
 {
-    let mut i = 0;
-    while i < ws.len() {
+    for i in 0..ws.len() {
         kept[base + i] = weight(w, feature_of(ws, i));
-        i += 1;
     }
 }
 
@@ -56,10 +54,8 @@ fn entry(kept: &[f64], shape: Kept, size: usize, k: usize, l: usize) -> f64
     ensures { result ≡ ext.entry shape.p size kept.now k l }
 {
     let mut s = 0.0;
-    let mut place = 0;
-    while place < size {
-        s = s + difference(kept, shape, k, place) * difference(kept, shape, l, place);
-        place += 1;
+    for place in 0..size {
+        s += difference(kept, shape, k, place) * difference(kept, shape, l, place);
     }
     s
 }
@@ -83,14 +79,11 @@ fn system_row(kept: &[f64], shape: Kept, size: usize, above: [[f64; 11]; 10], k:
         × filling.RowsAbove shape size kept.now k above }
     ensures { result ≡ ext.system_row shape.depth shape.p size kept.now k }
 {
-    let depth = shape.depth;
     let mut row = [0.0; 11];
-    let mut l = 0;
-    while l < depth {
+    for l in 0..shape.depth {
         row[l] = paired(kept, shape, size, above, k, l);
-        l += 1;
     }
-    row[depth] = 1.0;
+    row[shape.depth] = 1.0;
     row
 }
 
@@ -100,11 +93,8 @@ pub fn system(kept: &[f64], shape: Kept, size: usize) -> [[f64; 11]; 10]
     ensures { result ≡ ext.system shape.depth shape.p size kept.now }
 {
     let mut m = [[0.0; 11]; 10];
-    let mut k = 0;
-    while k < shape.depth {
-        let row = system_row(kept, shape, size, m, k);
-        m[k] = row;
-        k += 1;
+    for k in 0..shape.depth {
+        m[k] = system_row(kept, shape, size, m, k);
     }
     m
 }
@@ -117,10 +107,8 @@ pub fn combined(kept: &[f64], shape: Kept, c: [f64; 10], i: usize) -> f64
     ensures { result ≡ ext.combined shape.depth shape.p kept.now c i }
 {
     let mut s = 0.0;
-    let mut k = 0;
-    while k < shape.depth {
-        s = s + c[k] * kept_weight(kept, shape, k, i);
-        k += 1;
+    for k in 0..shape.depth {
+        s += c[k] * kept_weight(kept, shape, k, i);
     }
     s
 }

@@ -70,9 +70,7 @@ fn heapify(kkt: &[f64], kept: &mut [u32])
     requires { (length kept.old ≤ 8192) × order.Each (heap.Number kkt.now) kept.old }
     ensures { heap.Heap (heap.ahead kkt.now) 0 kept.new × order.Same kept.new kept.old }
 {
-    let mut k = kept.len();
-    while 0 < k {
-        k -= 1;
+    for k in (0..kept.len()).rev() {
         let x = kept[k];
         sink(kkt, kept, k, x);
     }
@@ -98,10 +96,8 @@ fn sort(kkt: &[f64], kept: &mut [u32])
     requires { (length kept.old ≤ 8192) × order.Each (heap.Number kkt.now) kept.old × heap.Heap (heap.ahead kkt.now) 0 kept.old }
     ensures { order.OrderedFrom (heap.ahead kkt.now) 0 kept.new × order.Same kept.new kept.old }
 {
-    let mut c = kept.len();
-    while 1 < c {
+    for c in (2..=kept.len()).rev() {
         pop(kkt, &mut kept[..c]);
-        c -= 1;
     }
 }
 
@@ -126,12 +122,13 @@ fn keep_first(w: &[f64], kept: &mut [u32]) -> usize
     ensures { (result ≤ length w.now) × ((v : List Float) → order.Same kept.new (def.others v w.now result)) }
 {
     let mut c = 0;
-    let mut j = 0;
-    while c < kept.len() {
-        c = keep(w[j], j, c, kept);
-        j += 1;
+    for (j, x) in w.iter().enumerate() {
+        if c == kept.len() {
+            return j;
+        }
+        c = keep(*x, j, c, kept);
     }
-    j
+    w.len()
 }
 
 // Feature j of weight w: if that is zero and it stands ahead of the root, it takes the root's place and sinks.
@@ -157,9 +154,7 @@ fn offer_rest(kkt: &[f64], w: &[f64], kept: &mut [u32], from: usize)
         × order.Same kept.old (def.others kkt.now w.now from) }
     ensures { heap.Heap (heap.ahead kkt.now) 0 kept.new × heap.Chosen kkt.now w.now kept.new }
 {
-    let mut j = w.len();
-    while from < j {
-        j -= 1;
+    for j in (from..w.len()).rev() {
         offer(kkt, w[j], kept, j);
     }
 }

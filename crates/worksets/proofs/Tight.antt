@@ -4,7 +4,6 @@ use mathlib.Core.Path.{◌≡◌, ap}
 use Rattle.doubles.proofs.Tight.{coincide, same_refusal}
 use Rattle.worksets.specs.Call.{size_of}
 use Rattle.worksets.specs.declared.WorkingSet.{WorkingSet}
-use Rattle.worksets.specs.declared.WorkingSet.TheVariants as WorkingSet
 use Rattle.worksets.proofs.construct_ws_from_kkt.Reads as construct_ws_from_kkt_reads
 
 -- a reading loses nothing

@@ -9,7 +9,6 @@ use Rattle.doubles.specs.Answer.{Fault, none, unless_at, unless, after, left}
 use Rattle.designs.specs.Checks.{told}
 use Rattle.definition.specs.WorkingSet.{is_zero, size, working_set, padded}
 use Rattle.worksets.specs.declared.WorkingSet.{WorkingSet}
-use Rattle.worksets.specs.declared.WorkingSet.TheVariants as WorkingSet
 
 -- what the answer stands for: a refusal, or the size
 abbrev pub size_of : WorkingSet → Outcome ℕ

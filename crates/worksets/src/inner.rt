@@ -19,47 +19,30 @@ pub fn lengths_agree(kkt: &[f64], w: &[f64]) -> bool
         (num.◌and◌ (leb (length w.now) 8192) (eqb (length kkt.now) (length w.now))) }
 {
     let p = w.len();
-    if p < 1 {
-        return false;
-    }
-    if 8192 < p {
-        return false;
-    }
-    kkt.len() == p
+    1 <= p && p <= 8192 && kkt.len() == p
 }
 
 pub fn start_in_range(start: usize, p: usize) -> bool
     ensures { result ≡ num.◌and◌ (leb 1 start) (leb start p) }
 {
-    if start < 1 {
-        return false;
-    }
-    start <= p
+    1 <= start && start <= p
 }
 
 // Whether a violation is one to refuse. Only at a zero weight: at another it ranks nothing, and may be anything.
 fn is_bad_violation(violation: f64, weight: f64) -> bool
     ensures { result ≡ num.◌and◌ (eq weight num.#0) (num.◌or◌ (not (num.finite violation)) (lt violation num.#0)) }
 {
-    if weight == 0.0 {
-        if is_finite(violation) {
-            return violation < 0.0;
-        }
-        return true;
-    }
-    false
+    weight == 0.0 && (!is_finite(violation) || violation < 0.0)
 }
 
 pub fn first_bad_violation(kkt: &[f64], w: &[f64]) -> Found
     requires { length kkt.now ≡ length w.now }
     ensures { result ≡ first_of (λ j. mark (calls.bad_violation kkt.now w.now j) j) (length w.now) }
 {
-    let mut j = 0;
-    while j < w.len() {
+    for j in 0..w.len() {
         if is_bad_violation(kkt[j], w[j]) {
             return Found::At(j);
         }
-        j += 1;
     }
     Found::Nowhere
 }
@@ -70,11 +53,7 @@ pub fn first_bad_violation(kkt: &[f64], w: &[f64]) -> Found
 pub fn clear_indices(indices: &mut [u32])
     ensures { indices.new ≡ tab (λ k. 0) (length indices.old) }
 {
-    let mut k = 0;
-    while k < indices.len() {
-        indices[k] = 0;
-        k += 1;
-    }
+    indices.fill(0);
 }
 
 // Feature j goes to place c if its weight is not zero; the number of places filled then.
@@ -97,10 +76,8 @@ fn support(w: &[f64], indices: &mut [u32]) -> usize
         × (indices.new ≡ def.padded (def.support w.now (length w.now)) (length w.now)) }
 {
     let mut c = 0;
-    let mut j = 0;
-    while j < w.len() {
-        c = append(w[j], j, c, indices);
-        j += 1;
+    for (j, x) in w.iter().enumerate() {
+        c = append(*x, j, c, indices);
     }
     c
 }
@@ -110,24 +87,14 @@ fn size(start: usize, nonzero: usize, p: usize) -> usize
     requires { nonzero ≤ 8192 }
     ensures { result ≡ def.greater start (def.smaller (2 * nonzero) p) }
 {
-    let twice = 2 * nonzero;
-    let grown = if p < twice { p } else { twice };
-    if start < grown { grown } else { start }
+    start.max(p.min(2 * nonzero))
 }
 
 // How many weights are not zero.
 pub fn nonzeros(w: &[f64]) -> usize
     ensures { result ≡ def.nonzeros w.now }
 {
-    let mut count = 0;
-    let mut j = 0;
-    while j < w.len() {
-        if w[j] == 0.0 {} else {
-            count += 1;
-        }
-        j += 1;
-    }
-    count
+    w.iter().filter(|x| **x != 0.0).count()
 }
 
 // The working set into p index places, then 0; its size.

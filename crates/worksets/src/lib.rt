@@ -20,10 +20,7 @@ pub enum WorkingSet {
 fn refused(number: u32, place: usize) -> WorkingSet
     ensures { calls.size_of result ≡ refused' number place }
 {
-    WorkingSet::Refused(Refusal {
-        number: number,
-        place: place,
-    })
+    WorkingSet::Refused(Refusal { number, place })
 }
 
 // The working set of p weights and their violations, from a start size: p index places get the set, then 0. The violations are only read.
@@ -37,13 +34,13 @@ pub fn construct_ws_from_kkt(
         × (indices.new ≡ calls.ws_left kkt.now w.now start indices.old) }
 {
     let p = w.len();
-    if inner::lengths_agree(kkt, w) {} else {
+    if !inner::lengths_agree(kkt, w) {
         return refused(1, 0);
     }
-    if inner::start_in_range(start, p) {} else {
+    if !inner::start_in_range(start, p) {
         return refused(2, 2);
     }
-    if p <= indices.len() {} else {
+    if indices.len() < p {
         return refused(3, 0);
     }
     if let Found::At(j) = inner::first_bad_violation(kkt, w) {

@@ -1,14 +1,10 @@
 -- `check_handed`: the search upward, so far nothing was found. Assumes nothing.
 use mathlib.Core.Path.{◌≡◌}
 use mathlib.Core.Bool.{not}
-use Prim.Native.Nat.{◌≤◌, ◌-◌}
 use Rattle.designs.specs.Search.{first_of, mark}
 use Rattle.designs.specs.declared.Found.TheVariants.{Nowhere}
 use Rattle.definition.specs.Call.{acceptable_at}
 use Rattle.decisions.proofs.check_handed.Given as goal
 
 abbrev pub invariant-loop-j : goal.invariant-loop-j
-invariant-loop-j l = (l.j ≤ l.p) × (Nowhere ≡ first_of (λ k. mark (not (acceptable_at l.p l.prepared k)) k) l.j)
-
-abbrev pub decreases-loop-j : goal.decreases-loop-j
-decreases-loop-j l = l.p - l.j
+invariant-loop-j l = Nowhere ≡ first_of (λ k. mark (not (acceptable_at l.p l.prepared k)) k) l.j

@@ -5,7 +5,7 @@ use Rattle.definition.specs.Call.{settings_fault}
 use Rattle.definition.specs.declared.Settings.{Settings}
 use Rattle.definition.proofs.Laws.Settings.{from-epochs, from_start, from-depth, from-tolerance}
 use Rattle.decisions.proofs.check_settings.Goals as goal
-use Rattle.decisions.proofs.check_settings.Goals.{Else-settings-gt1000, Else-settings-gt100000, Then-depth_in_range, Then-start_in_range}
+use Rattle.decisions.proofs.check_settings.Goals.{Else-settings-gt1000, Else-settings-gt100000, Else-not-depth_in_range, Else-not-start_in_range}
 
 -- ---- the places behind a test that was passed, each from the one behind it
 abbrev settings : Else-settings-gt1000 → Settings
@@ -19,11 +19,11 @@ few-iterations c = rw (le-leb _ _ c.if-settings-gt1000.false)
 few-epochs : (c : Else-settings-gt100000) → let S = settings c.before.before in settings_fault S ≡ from_start S
 few-epochs c = few-iterations c.before.before ∙ rw (le-leb _ _ c.if-settings-gt100000.false)
 
-start-legal : (c : Then-start_in_range) → let S = settings c.before.before.before.before in settings_fault S ≡ from-depth S
-start-legal c = few-epochs c.before.before ∙ rw (sym c.start_in_range.ensures ∙ c.if-start_in_range.true)
+start-legal : (c : Else-not-start_in_range) → let S = settings c.before.before.before.before in settings_fault S ≡ from-depth S
+start-legal c = few-epochs c.before.before ∙ rw (sym c.start_in_range.ensures ∙ c.if-not-start_in_range.false)
 
-depth-legal : (c : Then-depth_in_range) → let S = settings c.before.before.before.before.before.before in settings_fault S ≡ from-tolerance S
-depth-legal c = start-legal c.before.before ∙ rw (sym c.depth_in_range.ensures ∙ c.if-depth_in_range.true)
+depth-legal : (c : Else-not-depth_in_range) → let S = settings c.before.before.before.before.before.before in settings_fault S ≡ from-tolerance S
+depth-legal c = start-legal c.before.before ∙ rw (sym c.depth_in_range.ensures ∙ c.if-not-depth_in_range.false)
 
 pub returns-then-settings-gt1000 : goal.returns-then-settings-gt1000
 unfolding settings_fault
@@ -34,21 +34,21 @@ returns-then-settings-gt100000 c =
     let here = goal.at.returns-then-settings-gt100000 c in
     c.refused-then-settings-gt100000.ensures ∙ rw (few-iterations here.Else-settings-gt1000, lt-leb _ _ c.if-settings-gt100000.true)
 
-pub returns-else-start_in_range : goal.returns-else-start_in_range
-returns-else-start_in_range c =
-    let here = goal.at.returns-else-start_in_range c in
-    c.refused-else-start_in_range.ensures ∙ rw (few-epochs here.Else-settings-gt100000, ← c.start_in_range.ensures, c.if-start_in_range.false)
+pub returns-then-not-start_in_range : goal.returns-then-not-start_in_range
+returns-then-not-start_in_range c =
+    let here = goal.at.returns-then-not-start_in_range c in
+    c.refused-then-not-start_in_range.ensures ∙ rw (few-epochs here.Else-settings-gt100000, ← c.start_in_range.ensures, c.if-not-start_in_range.true)
 
-pub returns-else-depth_in_range : goal.returns-else-depth_in_range
-returns-else-depth_in_range c =
-    let here = goal.at.returns-else-depth_in_range c in
-    c.refused-else-depth_in_range.ensures ∙ rw (start-legal here.Then-start_in_range, ← c.depth_in_range.ensures, c.if-depth_in_range.false)
+pub returns-then-not-depth_in_range : goal.returns-then-not-depth_in_range
+returns-then-not-depth_in_range c =
+    let here = goal.at.returns-then-not-depth_in_range c in
+    c.refused-then-not-depth_in_range.ensures ∙ rw (start-legal here.Else-not-start_in_range, ← c.depth_in_range.ensures, c.if-not-depth_in_range.true)
 
-pub returns-else-alpha_in_range : goal.returns-else-alpha_in_range
-returns-else-alpha_in_range c =
-    let here = goal.at.returns-else-alpha_in_range c in
-    c.refused-else-alpha_in_range.ensures ∙ rw (depth-legal here.Then-depth_in_range, ← c.alpha_in_range.ensures, c.if-alpha_in_range.false)
+pub returns-then-not-alpha_in_range : goal.returns-then-not-alpha_in_range
+returns-then-not-alpha_in_range c =
+    let here = goal.at.returns-then-not-alpha_in_range c in
+    c.refused-then-not-alpha_in_range.ensures ∙ rw (depth-legal here.Else-not-depth_in_range, ← c.alpha_in_range.ensures, c.if-not-alpha_in_range.true)
 
 pub returns : goal.returns
 returns c =
-    c.check_range.ensures ∙ rw (depth-legal (goal.at.returns c).Then-depth_in_range, ← c.alpha_in_range.ensures, c.if-alpha_in_range.true)
+    c.check_range.ensures ∙ rw (depth-legal (goal.at.returns c).Else-not-depth_in_range, ← c.alpha_in_range.ensures, c.if-not-alpha_in_range.false)

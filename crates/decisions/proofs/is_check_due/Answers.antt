@@ -5,10 +5,10 @@ use borrow.Author.Tests.{lt-ltb}
 use Rattle.doubles.proofs.Laws.Choice.{positive}
 use Rattle.decisions.proofs.is_check_due.Goals as goal
 
-pub returns-then-e-eq0 : goal.returns-then-e-eq0
+pub returns-then-e-ne0 : goal.returns-then-e-ne0
 unfolding checks ◌and◌
-returns-then-e-eq0 c = rw c.if-e-eq0.true
+returns-then-e-ne0 c = rw (lt-ltb 0 _ (positive _ c.if-e-ne0.true))
 
-pub returns : goal.returns
+pub returns-else-e-ne0 : goal.returns-else-e-ne0
 unfolding checks ◌and◌
-returns c = rw (lt-ltb 0 _ (positive _ c.if-e-eq0.false))
+returns-else-e-ne0 c = rw c.if-e-ne0.false

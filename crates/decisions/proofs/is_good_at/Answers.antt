@@ -10,10 +10,8 @@ returns-else-alpha_in_range c = rw (← c.alpha_in_range.ensures, c.if-alpha_in_
 
 pub returns-then-k-eq0 : goal.returns-then-k-eq0
 unfolding good_at ◌and◌ ◌or◌
-returns-then-k-eq0 c =
-    rw (← c.alpha_in_range.ensures, c.if-alpha_in_range.true, eq-eqb _ _ c.if-k-eq0.true)
+returns-then-k-eq0 c = rw (← c.alpha_in_range.ensures, c.if-alpha_in_range.true, eq-eqb _ _ c.if-k-eq0.true)
 
-pub returns : goal.returns
+pub returns-else-k-eq0 : goal.returns-else-k-eq0
 unfolding good_at ◌and◌ ◌or◌
-returns c =
-    rw (← c.alpha_in_range.ensures, c.if-alpha_in_range.true, ne_eqb _ _ c.if-k-eq0.false)
+returns-else-k-eq0 c = rw (← c.alpha_in_range.ensures, c.if-alpha_in_range.true, ne_eqb _ _ c.if-k-eq0.false)

@@ -8,6 +8,6 @@ pub returns-then-report-eq1 : goal.returns-then-report-eq1
 unfolding wanted ◌and◌
 returns-then-report-eq1 c = rw (eq-eqb _ _ c.if-report-eq1.true)
 
-pub returns : goal.returns
+pub returns-else-report-eq1 : goal.returns-else-report-eq1
 unfolding wanted ◌and◌
-returns c = rw (ne_eqb _ _ c.if-report-eq1.false)
+returns-else-report-eq1 c = rw (ne_eqb _ _ c.if-report-eq1.false)

@@ -40,8 +40,8 @@ keep-requires c =
       row_room a.shape a.depth a.scratch.now _ _ a.e parts.0 parts.1 sized.room _ sized.few,
     )
 
-pub returns-else-row-depth : goal.returns-else-row-depth
-returns-else-row-depth c = (λ q. not_last _ _ _ _ _ _ _ c.if-row-depth.false, row (goal.at.returns-else-row-depth c).After-keep)
+pub returns-then-row-depth : goal.returns-then-row-depth
+returns-then-row-depth c = (λ q. not_last _ _ _ _ _ _ _ c.if-row-depth.true, row (goal.at.returns-then-row-depth c).After-keep)
 
 pub extrapolate-requires : goal.extrapolate-requires
 extrapolate-requires c =
@@ -51,4 +51,4 @@ extrapolate-requires c =
 
 pub returns : goal.returns
 returns c =
-    step-tried _ _ _ _ _ _ _ _ _ _ (row (goal.at.returns c).After-keep) c.if-row-depth.true c.extrapolate.ensures
+    step-tried _ _ _ _ _ _ _ _ _ _ (row (goal.at.returns c).After-keep) c.if-row-depth.false c.extrapolate.ensures

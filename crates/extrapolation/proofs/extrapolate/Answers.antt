@@ -13,10 +13,10 @@ kept : (c : After-lay_out-at) → let a = c.args in
     ≡ kept_in a.shape a.depth a.scratch.now
 kept c = kept_read c.args.shape c.args.depth _ _ _ c.lay_out-at.ensures.0 c.lay_out-at.ensures.1
 
-pub returns-else-is_regular : goal.returns-else-is_regular
-returns-else-is_regular c =
-    let rows = kept (goal.at.returns-else-is_regular c).After-lay_out-at in (
-      λ q. from_singular _ _ _ _ _ _ _ _ _ _ rows c.system.ensures c.eliminate-m.ensures c.is_regular.ensures c.if-is_regular.false,
+pub returns-then-not-is_regular : goal.returns-then-not-is_regular
+returns-then-not-is_regular c =
+    let rows = kept (goal.at.returns-then-not-is_regular c).After-lay_out-at in (
+      λ q. from_singular _ _ _ _ _ _ _ _ _ _ rows c.system.ensures c.eliminate-m.ensures c.is_regular.ensures c.if-not-is_regular.true,
       refl,
     )
 
@@ -25,6 +25,6 @@ returns c =
     let tried = c.try_candidate.ensures in
     let rows = kept (goal.at.returns c).After-lay_out-at in (
       λ q. from-regular _ _ _ _ _ _ _ _ _ _ rows c.system.ensures c.eliminate-m.ensures
-          c.is_regular.ensures c.if-is_regular.true _ c.read_off-z.ensures _ (tried.0 q),
+          c.is_regular.ensures c.if-not-is_regular.false _ c.read_off-z.ensures _ (tried.0 q),
       tried.1,
     )

@@ -1,16 +1,15 @@
 -- `combined`: the invariant is the sum over the rows passed. Assumes nothing.
-use Prim.Native.Nat.{◌-◌}
-use Rattle.doubles.proofs.Laws.Steps.{steps-none, steps-turn, steps_all}
-use Rattle.definition.specs.Extrapolation.{combined}
+use Rattle.doubles.proofs.Laws.Steps.{steps-none, steps-turn}
 use borrow.Author.Rules.{rules}
+use Rattle.definition.specs.Extrapolation.{combined}
 use Rattle.history.proofs.combined.Goals as goal
 
 pub loop-k-init : goal.loop-k-init
-loop-k-init c = (search rules, steps-none _ _)
+loop-k-init c = steps-none _ _
 
 pub loop-k-preserved : goal.loop-k-preserved
-loop-k-preserved c = (search rules, steps-turn _ _ _ _ _ c.loop-k.invariant.1 (rw c.kept_weight.ensures))
+loop-k-preserved c = steps-turn _ _ _ _ _ c.loop-k.invariant (rw c.kept_weight.ensures)
 
 pub returns : goal.returns
 unfolding combined
-returns c = let loop = c.loop-k in steps_all _ _ _ _ _ loop.invariant.1 loop.invariant.0 c.loop-k-test.false
+returns c = search rules

@@ -7,7 +7,6 @@ use mathlib.Core.List.{List, [], ◌∷◌, ◌++◌}
 use Prim.Native.Nat.{ℕ, ◌+◌, ◌≤◌, ◌<◌}
 use native.Mathlib.Nat.{le_antisymm}
 use native.Mathlib.Numerals.{add-one}
-use native.Mathlib.Decide.{ℕ_discrete}
 use native.Mathlib.Omega.{arith}
 use lib.Ieee.{Float}
 use lib.ListN.{length, get_or, take, set}
@@ -45,14 +44,6 @@ unfolding others support steps
 first-none w l = record { most = omega arith; few = omega arith; long = refl; many = refl; same = λ v. same_self [] }
 
 module _ {w : List Float} {m : ℕ} {l : List ℕ} {c j : ℕ} (s : FirstAt w m l c j) where
-  -- there is one more
-  pub first-inside : c < m → m + length (support w (length w)) ≤ length w → j < length w
-  first-inside b g = go (ℕ_discrete j (length w))
-    where
-      go : Dec (j ≡ length w) → j < length w
-      go (yes e) = let p = rw e at s.many in absurd (omega arith)
-      go (no n) = let p = s.most in omega arith
-
   pub first-turn : c < m → j < length w → (c' : ℕ) (l' : List ℕ) → c' ≡ pick (is_zero w j) (c + 1) c → l' ≡ pick (is_zero w j) (set l c j) l
       → length l' ≡ length l → FirstAt w m l' c' (j + 1)
   first-turn b g c' l' p q e = record {
@@ -82,6 +73,13 @@ module _ {w : List Float} {m : ℕ} {l : List ℕ} {c j : ℕ} (s : FirstAt w m 
 
   pub first-all : m ≤ c → (v : List Float) → Same l (others v w j)
   first-all b v = let f = s.few in let g = s.long in rw (take_all c l (omega arith)) at (s.same v)
+
+  -- all were looked at: then there was no more room than the features with zero weight have filled
+  pub first-end : length w ≤ j → m + length (support w (length w)) ≤ length w → (v : List Float) → Same l (others v w (length w))
+  first-end b g v =
+      let e : j ≡ length w = le_antisymm s.most b in
+      let full : m ≤ c = let p = rw e at s.many in omega arith in
+      rw e at (first-all full v)
 
 pub first-known : {v w : List Float} {j : ℕ} {l : List ℕ} → length v ≡ length w → Numbers v w → j ≤ length w → Same l (others v w j) → Each (Number v) l
 first-known {v} {w} {j} {l} e f h s = same-each (Number v) (others v w j) l s (others-known v w j e f h)

@@ -10,13 +10,13 @@ loop-k-init c = heaped_none (ahead c.args.kkt.now) c.requires.1
 pub sink-requires : goal.sink-requires
 sink-requires c =
     let inv = c.loop-k.invariant in
-    (search rules, search rules, inv.known, heaped_good inv c.loop-k-test.true, heaped_next inv c.loop-k-test.true)
+    let some = c.loop-k-test.true in
+    (search rules, search rules, inv.known, heaped_good inv some, heaped_next inv some)
 
 pub loop-k-preserved : goal.loop-k-preserved
 loop-k-preserved c =
     let sunk = c.sink in
-    let turn = heaped_turn c.loop-k.invariant c.loop-k-test.true in
-    turn sunk.new.kept sunk.auto.kept sunk.ensures.0 sunk.ensures.1
+    heaped_turn c.loop-k.invariant c.loop-k-test.true sunk.new.kept sunk.auto.kept sunk.ensures.0 sunk.ensures.1
 
 pub returns : goal.returns
 returns c = heaped_all c.loop-k.invariant c.loop-k-test.false

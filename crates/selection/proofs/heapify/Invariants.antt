@@ -5,6 +5,3 @@ use Rattle.selection.proofs.heapify.Given as goal
 
 abbrev pub invariant-loop-k : goal.invariant-loop-k
 invariant-loop-k l = HeapAt (ahead l.kkt) (Number l.kkt) l.initial.kept l.kept l.k
-
-abbrev pub decreases-loop-k : goal.decreases-loop-k
-decreases-loop-k l = l.k

@@ -1,40 +1,27 @@
 -- `keep_first`: the invariant is that the places filled hold the features with zero weight passed. Assumes nothing.
-use Prim.Native.Nat.{◌-◌, ◌<◌}
-use lib.ListN.{length}
-use Rattle.selection.proofs.Laws.Select.{first-none, first-inside, first-turn, first-all}
-use borrow.Author.Rules.{rules}
+use Rattle.selection.proofs.Laws.Select.{first-none, first-turn, first-all, first-end}
 use native.Mathlib.Omega.{arith}
+use native.Mathlib.Nat.{le_refl}
 use Rattle.selection.proofs.keep_first.Goals as goal
-use Rattle.selection.proofs.keep_first.Goals.{In-loop-c}
 
-pub loop-c-init : goal.loop-c-init
-loop-c-init c = first-none c.args.w.now c.args.kept.now
+pub loop-j-init : goal.loop-j-init
+loop-j-init c = first-none c.args.w.now c.args.kept.now
 
--- the feature that is looked at is one of the weights'
-inside : (c : In-loop-c) → c.loop-c.j < length c.args.w.now
-inside c = first-inside c.loop-c.invariant (let e = c.loop-c-test.true in search rules) c.requires.1
+pub returns-then-c-kept : goal.returns-then-c-kept
+returns-then-c-kept c =
+    let so_far = c.loop-j in
+    let full = c.if-c-kept.true in
+    let long = so_far.auto.kept in
+    (so_far.invariant.most, first-all so_far.invariant (omega arith))
 
-pub offset_bounds-w-j : goal.offset_bounds-w-j
-offset_bounds-w-j c = let h = inside (goal.at.offset_bounds-w-j c).In-loop-c in search rules
-
-pub bounds-w-j : goal.bounds-w-j
-bounds-w-j c = inside (goal.at.bounds-w-j c).In-loop-c
-
-pub keep-c-requires : goal.keep-c-requires
-keep-c-requires c =
-    let room = c.requires.0 in
-    let h = inside (goal.at.keep-c-requires c).In-loop-c in
-    (search rules, omega arith)
-
-pub loop-c-smaller : goal.loop-c-smaller
-loop-c-smaller c = let h = inside (goal.at.loop-c-smaller c).In-loop-c in search rules
-
-pub loop-c-preserved : goal.loop-c-preserved
-loop-c-preserved c =
+pub loop-j-preserved : goal.loop-j-preserved
+loop-j-preserved c =
     let kept = c.keep-c in
-    let few = c.loop-c-test.true in
-    let turn = first-turn c.loop-c.invariant (search rules) (inside (goal.at.loop-c-preserved c).In-loop-c) kept.result kept.new.kept in
-    turn kept.ensures.0 kept.ensures.1 kept.auto.kept
+    let so_far = c.loop-j in
+    let few = so_far.invariant.few in
+    let room = c.if-c-kept.false in
+    let long = so_far.auto.kept in
+    first-turn so_far.invariant (omega arith) c.loop-j-test.true kept.result kept.new.kept kept.ensures.0 kept.ensures.1 kept.auto.kept
 
 pub returns : goal.returns
-returns c = (c.loop-c.invariant.most, first-all c.loop-c.invariant (let e = c.loop-c-test.false in search rules))
+returns c = (le_refl _, first-end c.loop-j.invariant c.loop-j-test.false c.requires.1)

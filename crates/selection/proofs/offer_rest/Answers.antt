@@ -1,29 +1,11 @@
 -- `offer_rest`: the invariant is that what is left over of the features passed stands behind what is kept. Assumes nothing.
 use Prim.Native.Nat.{◌-◌}
-use Rattle.selection.proofs.Laws.Select.{rest-none, rest-number, rest-turn, rest_all}
+use Rattle.selection.proofs.Laws.Select.{rest-none, rest-turn, rest_all}
 use native.Mathlib.Omega.{arith}
 use Rattle.selection.proofs.offer_rest.Goals as goal
 
 pub loop-j-init : goal.loop-j-init
-loop-j-init c =
-    rest-none c.requires.2 c.requires.5 c.requires.4 c.requires.6 c.requires.7
-
-pub offer-requires : goal.offer-requires
-offer-requires c =
-    let from = c.loop-j-test.true in
-    let inv = c.loop-j.invariant in
-    let long = inv.long in
-    let most = inv.high in
-    let some = c.requires.0 in
-    let room = c.requires.1 in
-    let few = c.requires.3 in (
-      omega arith,
-      omega arith,
-      omega arith,
-      inv.known,
-      rest-number c.requires.2 c.requires.5 inv (c.loop-j.j - 1) (omega arith),
-      inv.heap,
-    )
+loop-j-init c = rest-none c.requires.2 c.requires.5 c.requires.4 c.requires.6 c.requires.7
 
 pub loop-j-preserved : goal.loop-j-preserved
 loop-j-preserved c =

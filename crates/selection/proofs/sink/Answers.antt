@@ -1,5 +1,4 @@
 -- `sink`: the invariant is that all but the place of x is a heap, and that x may stand below what is above it. Assumes nothing.
-use Prim.Native.Nat.{◌-◌}
 use Rattle.selection.proofs.Laws.Heap.{sunk_none, sunk_inside, sunk_few, sunk_less, sunk_known, sunk_turn, sunk_all}
 use borrow.Author.Rules.{rules}
 use Rattle.selection.proofs.sink.Goals as goal

@@ -1,14 +1,10 @@
 -- `sort`: the invariant is that the first c places are a heap, and what lies behind them is in order and behind them. Assumes nothing.
-use mathlib.Core.Path.{sym}
 use Rattle.selection.proofs.Laws.Heap.{sorted_none, sorted_known, sorted_turn, sorted_all, front_c}
 use native.Mathlib.Omega.{arith}
 use Rattle.selection.proofs.sort.Goals as goal
 
 pub loop-c-init : goal.loop-c-init
 loop-c-init c = sorted_none c.requires.1 c.requires.2
-
-pub slice_bounds-pop-end-in-loop-c : goal.slice_bounds-pop-end-in-loop-c
-slice_bounds-pop-end-in-loop-c c = sym (front_c c.loop-c.invariant)
 
 pub pop-requires : goal.pop-requires
 pop-requires c =
@@ -26,4 +22,4 @@ loop-c-preserved c =
     popped.ensures.0 popped.ensures.1 popped.ensures.2
 
 pub returns : goal.returns
-returns c = sorted_all c.loop-c.invariant c.loop-c-test.false
+returns c = sorted_all c.loop-c.invariant (let two = c.loop-c-test.false in omega arith)

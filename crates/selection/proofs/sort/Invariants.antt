@@ -5,6 +5,3 @@ use Rattle.selection.proofs.sort.Given as goal
 
 abbrev pub invariant-loop-c : goal.invariant-loop-c
 invariant-loop-c l = SortAt (ahead l.kkt) (Number l.kkt) l.initial.kept l.kept l.c
-
-abbrev pub decreases-loop-c : goal.decreases-loop-c
-decreases-loop-c l = l.c

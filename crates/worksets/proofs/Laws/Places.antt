@@ -1,26 +1,23 @@
 -- The index places while a set is made: the support and zeros behind it, then the others in the places up to the size. Assumes nothing.
-use mathlib.Core.Path.{◌≡◌, refl, sym, ap, ◌∙◌}
-use mathlib.Core.Bool.{Bool, true, false}
-use mathlib.Core.Logic.{◌⊎◌, inl, inr}
+use mathlib.Core.Path.{◌≡◌, refl, sym, ap, subst, ◌∙◌}
+use mathlib.Core.Bool.{Bool, true, false, not}
 use mathlib.Core.List.{List, [], ◌∷◌, ◌++◌, append_assoc}
-use Prim.Native.Nat.{ℕ, suc, ◌+◌, ◌*◌, ◌-◌, ◌≤◌, ◌<◌}
-use native.Mathlib.Nat.{le_antisymm, sub-zero}
+use native.Mathlib.Numerals.{add-one}
+use Prim.Native.Nat.{ℕ, zero, suc, ◌+◌, ◌*◌, ◌-◌, ◌≤◌, ◌<◌}
+use native.Mathlib.Nat.{le_antisymm, le_refl, sub-zero}
 use native.Mathlib.Omega.{arith}
-use lib.Ieee.{Float}
-use lib.ListN.{length, take, drop, set, length-append, length-drop}
-use lib.Seq.{length-take-le, take_at, drop_at, set_at}
-use borrow.Author.Tests.{lt-ltb, le-ltb}
-use Rattle.doubles.specs.Num.{pick}
+use lib.Ieee.{Float, ne, nan}
+use lib.ListN.{length, take, drop, set, replicate, length-append, length-drop, length-replicate, get_or-replicate}
+use lib.Seq.{take-length, length-take-le, take_at, drop_at, set_at}
+use Rattle.std.specs.List.{count_by}
+use Rattle.std.proofs.lemmas.List.Sums.{count_by_more_yes, count_by_more_no}
+use Rattle.doubles.specs.Num.{#0, pick}
 use Rattle.doubles.specs.Steps.{steps, tab}
-use Rattle.doubles.proofs.Laws.Parts.{same_drop, same_first}
+use Rattle.doubles.proofs.Laws.Steps.{tab-none}
+use Rattle.doubles.proofs.Laws.Parts.{same_drop, same_first, tab-filled}
 use Rattle.definition.specs.WorkingSet.{is_zero, smaller, greater, support, size, others, working_set, padded}
 use Rattle.selection.proofs.Laws.Others.{share_out}
 use Rattle.worksets.proofs.Laws.Sets.{support-more, support-few, size_most, size_least, working_set_parts, length-working_set}
-
--- ---- the size: which of two is the smaller, by the branch that was taken
-pub smaller_of : {P Q : Type 0} (a n g : ℕ) → ((t : P) × (g ≡ n)) ⊎ ((t : Q) × (g ≡ a)) → (P → n < a) → (Q → a ≤ n) → g ≡ smaller a n
-smaller_of a n g (inl t) p q = rw (lt-ltb n a (p t.0)) t.1
-smaller_of a n g (inr t) p q = rw (le-ltb n a (q t.0)) t.1
 
 -- ---- the whole: what lies behind the support is filled with others up to the size, and zeros behind
 filled : (start : ℕ) (v w : List Float) (h : start ≤ length w) (a s : ℕ) (l r : List ℕ) → a ≡ length (support w (length w)) → s ≡ size start w
@@ -72,6 +69,12 @@ module _ (start : ℕ) (v w : List Float) (a s : ℕ) (h : start ≤ length w) (
       let t : length (take (s - a) (drop a l)) ≡ s - a = length-take-le (s - a) (drop a l) (omega arith) in
       filled start v w h a s l r ea sized is (rw t at q)
 
+-- ---- the places before anything is collected
+pub zeros : (n : ℕ) → replicate n 0 ≡ tab {A = ℕ} (λ k. 0) n
+zeros n =
+    tab-none (λ k. 0) (replicate n 0)
+    ∙ tab-filled (λ k. 0) (replicate n 0) 0 0 n (length-replicate n 0) (omega arith) (λ j a b. get_or-replicate n j 0 0 b)
+
 -- ---- the loop that collects the support
 pub support-none : (w : List Float) (l : List ℕ) (n : ℕ) → l ≡ tab {A = ℕ} (λ k. 0) n → l ≡ padded (support w 0) n
 unfolding padded support steps
@@ -98,11 +101,23 @@ support-count w j c c' e q = q ∙ rw (support-more w j, e) (go (is_zero w j))
     go true = refl
     go false = sym (length-append (support w j) (j ∷ []))
 
--- a count that grew or stayed, by the branch that was taken
-pub counted_by : {P Q : Type 0} (zero : Bool) (c c' : ℕ) → ((t : P) × (c' ≡ c)) ⊎ ((t : Q) × (c' ≡ c + 1)) → (P → zero ≡ true) → (Q → zero ≡ false)
-    → c' ≡ pick zero c (c + 1)
-counted_by zero c c' (inl t) p q = rw (p t.0) t.1
-counted_by zero c c' (inr t) p q = rw (q t.0) t.1
+-- how many of the first weights are not zero: as many as stand in the support
+abbrev counts : Float → Bool
+counts x = ne x #0
+
+counted-first : (w : List Float) (n : ℕ) → n ≤ length w → count_by counts (take n w) ≡ length (support w n)
+unfolding ne
+counted-first w zero h = support-start w
+counted-first w (suc n) h =
+    subst (λ (k : ℕ). count_by counts (take k w) ≡ length (support w k)) (add-one n)
+    (support-count w n _ _ (counted-first w n (omega arith)) (go (is_zero w n) refl))
+  where
+    go : (t : Bool) → is_zero w n ≡ t → count_by counts (take (n + 1) w) ≡ pick t (count_by counts (take n w)) (count_by counts (take n w) + 1)
+    go true e = count_by_more_no counts w n nan (omega arith) (ap not e)
+    go false e = count_by_more_yes counts w n nan (omega arith) (ap not e)
+
+pub counted : (w : List Float) → count_by (λ (x : Float). ne x #0) w ≡ length (support w (length w))
+counted w = ap (count_by counts) (sym (take-length w)) ∙ counted-first w (length w) (le_refl (length w))
 
 pub support-turn : (w : List Float) (n j c : ℕ) (l l' : List ℕ) → j < n → c ≡ length (support w j) → l ≡ padded (support w j) n
     → l' ≡ pick (is_zero w j) l (set l c j) → l' ≡ padded (support w (j + 1)) n

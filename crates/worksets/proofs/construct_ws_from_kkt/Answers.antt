@@ -40,31 +40,31 @@ module _ (v w : List Float) (start : ℕ) (indices : List ℕ) where
   unfolding ws_call ws_left
   answered-as n l e h f = rw f (ap answered e, h)
 
-pub returns-else-lengths_agree : goal.returns-else-lengths_agree
+pub returns-then-not-lengths_agree : goal.returns-then-not-lengths_agree
 unfolding ws_fault
-returns-else-lengths_agree c = refused_as _ _ _ _ _ 1 0 c.refused.ensures (rw (← c.lengths_agree.ensures, c.if-lengths_agree.false))
+returns-then-not-lengths_agree c = refused_as _ _ _ _ _ 1 0 c.refused.ensures (rw (← c.lengths_agree.ensures, c.if-not-lengths_agree.true))
 
-pub returns-else-start_in_range : goal.returns-else-start_in_range
+pub returns-then-not-start_in_range : goal.returns-then-not-start_in_range
 unfolding ws_fault
-returns-else-start_in_range c =
-    refused_as _ _ _ _ _ 2 2 c.refused-else-start_in_range.ensures
-    (rw (← c.lengths_agree.ensures, c.if-lengths_agree.true, ← c.start_in_range.ensures, c.if-start_in_range.false))
+returns-then-not-start_in_range c =
+    refused_as _ _ _ _ _ 2 2 c.refused-then-not-start_in_range.ensures
+    (rw (← c.lengths_agree.ensures, c.if-not-lengths_agree.false, ← c.start_in_range.ensures, c.if-not-start_in_range.true))
 
-pub returns-else-p-indices : goal.returns-else-p-indices
+pub returns-then-indices-p : goal.returns-then-indices-p
 unfolding ws_fault
-returns-else-p-indices c =
-    refused_as _ _ _ _ _ 3 0 c.refused-else-p-indices.ensures
+returns-then-indices-p c =
+    refused_as _ _ _ _ _ 3 0 c.refused-then-indices-p.ensures
     (rw (
       ← c.lengths_agree.ensures,
-      c.if-lengths_agree.true,
+      c.if-not-lengths_agree.false,
       ← c.start_in_range.ensures,
-      c.if-start_in_range.true,
-      lt-leb _ _ c.if-p-indices.false,
+      c.if-not-start_in_range.false,
+      lt-leb _ _ c.if-indices-p.true,
     ))
 
 pub first_bad_violation-requires : goal.first_bad_violation-requires
 first_bad_violation-requires c =
-    (agreed _ _ _ c.lengths_agree.ensures c.if-lengths_agree.true).1
+    (agreed _ _ _ c.lengths_agree.ensures c.if-not-lengths_agree.false).1
 
 pub returns-in-At : goal.returns-in-At
 unfolding ws_fault
@@ -72,24 +72,24 @@ returns-in-At c =
     refused_as _ _ _ _ _ 8 _ c.refused-in-At.ensures
     (rw (
       ← c.lengths_agree.ensures,
-      c.if-lengths_agree.true,
+      c.if-not-lengths_agree.false,
       ← c.start_in_range.ensures,
-      c.if-start_in_range.true,
-      le-leb _ _ c.if-p-indices.true,
+      c.if-not-start_in_range.false,
+      le-leb _ _ c.if-indices-p.false,
       ← c.first_bad_violation.ensures,
       c.in-At.is,
     ))
 
 pub slice_bounds-construct_ws-end-2 : goal.slice_bounds-construct_ws-end-2
-slice_bounds-construct_ws-end-2 c = sym (length-take-le _ _ c.if-p-indices.true)
+slice_bounds-construct_ws-end-2 c = sym (length-take-le _ _ c.if-indices-p.false)
 
 pub construct_ws-requires : goal.construct_ws-requires
 construct_ws-requires c =
-    let sizes = agreed _ _ _ c.lengths_agree.ensures c.if-lengths_agree.true in (
+    let sizes = agreed _ _ _ c.lengths_agree.ensures c.if-not-lengths_agree.false in (
       sizes.1,
       sizes.0,
-      within _ _ _ c.start_in_range.ensures c.if-start_in_range.true,
-      length-take-le _ _ c.if-p-indices.true,
+      within _ _ _ c.start_in_range.ensures c.if-not-start_in_range.false,
+      length-take-le _ _ c.if-indices-p.false,
       numbers_of _ _ (sym c.first_bad_violation.ensures ∙ c.in_default.is),
     )
 
@@ -99,14 +99,14 @@ returns c =
     let built = c.construct_ws in
     let w = c.args.w.now in
     let lent = c.args.indices.now in
-    let placed = put_front lent (length w) built.new.indices _ c.if-p-indices.true built.auto.indices built.ensures.1 in
+    let placed = put_front lent (length w) built.new.indices _ c.if-indices-p.false built.auto.indices built.ensures.1 in
     answered-as c.args.kkt.now w c.args.start lent _ _ built.ensures.0 placed
     (rw (
       ← c.lengths_agree.ensures,
-      c.if-lengths_agree.true,
+      c.if-not-lengths_agree.false,
       ← c.start_in_range.ensures,
-      c.if-start_in_range.true,
-      le-leb _ _ c.if-p-indices.true,
+      c.if-not-start_in_range.false,
+      le-leb _ _ c.if-indices-p.false,
       ← c.first_bad_violation.ensures,
       c.in_default.is,
     ))

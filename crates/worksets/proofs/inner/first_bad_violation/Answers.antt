@@ -1,42 +1,29 @@
 -- The search upward: so far nothing was found. Assumes nothing.
 use mathlib.Core.Path.{◌≡◌}
-use Prim.Native.Nat.{ℕ, ◌-◌}
+use Prim.Native.Nat.{ℕ}
 use mathlib.Core.Bool.{Bool, not}
 use mathlib.Core.List.{List}
 use lib.Ieee.{Float, lt}
 use Rattle.doubles.specs.Num.{#0, at, finite, ◌and◌, ◌or◌}
-use Rattle.designs.specs.Search.{mark}
 use Rattle.designs.proofs.Laws.Search.{mark_on, mark_here}
-use Rattle.doubles.proofs.Laws.Steps.{steps-none, steps_all}
+use Rattle.doubles.proofs.Laws.Steps.{steps-none}
 use Rattle.worksets.specs.Call.{bad_violation}
 use Rattle.definition.specs.WorkingSet.{is_zero}
-use borrow.Author.Rules.{rules}
 use Rattle.worksets.proofs.inner.first_bad_violation.Goals as goal
-use Rattle.worksets.proofs.inner.first_bad_violation.Goals.{In-loop-j}
 
 is-bad : (v w : List Float) (j : ℕ) (r : Bool) → r ≡ (is_zero w j and (not (finite (at v j)) or lt (at v j) #0)) → r ≡ bad_violation v w j
 unfolding bad_violation
 is-bad v w j r e = e
 
 pub loop-j-init : goal.loop-j-init
-loop-j-init c = (search rules, search rules, steps-none _ _)
-
--- the test at each feature
-abbrev bad : In-loop-j → ℕ → Bool
-bad c = bad_violation c.args.kkt.now c.args.w.now
+loop-j-init c = steps-none _ _
 
 pub returns-then-is_bad_violation : goal.returns-then-is_bad_violation
 returns-then-is_bad_violation c =
-    let told = is-bad _ _ _ _ c.is_bad_violation.ensures in
-    mark_here (bad (goal.at.returns-then-is_bad_violation c).In-loop-j) (λ i. i) _ _ c.loop-j.invariant.2 told _ c.if-is_bad_violation.true c.loop-j-test.true
+    mark_here (bad_violation c.args.kkt.now c.args.w.now) (λ i. i) _ _ c.loop-j.invariant (is-bad _ _ _ _ c.is_bad_violation.ensures) _
+    c.if-is_bad_violation.true c.loop-j-test.true
 
 pub loop-j-preserved : goal.loop-j-preserved
 loop-j-preserved c =
-    let here = goal.at.loop-j-preserved c in (
-      search rules,
-      search rules,
-      mark_on (bad here.In-loop-j) (λ i. i) _ _ c.loop-j.invariant.2 (is-bad _ _ _ _ c.is_bad_violation.ensures) c.if-is_bad_violation.false,
-    )
-
-pub returns : goal.returns
-returns c = steps_all _ _ _ _ _ c.loop-j.invariant.2 c.loop-j.invariant.1 c.loop-j-test.false
+    mark_on (bad_violation c.args.kkt.now c.args.w.now) (λ i. i) _ _ c.loop-j.invariant (is-bad _ _ _ _ c.is_bad_violation.ensures)
+    c.if-is_bad_violation.false

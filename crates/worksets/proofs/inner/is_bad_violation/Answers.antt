@@ -2,14 +2,14 @@
 use Rattle.doubles.specs.Num.{◌and◌, ◌or◌}
 use Rattle.worksets.proofs.inner.is_bad_violation.Goals as goal
 
-pub returns-then-is_finite : goal.returns-then-is_finite
+pub returns-then-not-is_finite : goal.returns-then-not-is_finite
 unfolding ◌and◌ ◌or◌
-returns-then-is_finite c = rw (c.if-weight.true, ← c.is_finite.ensures, c.if-is_finite.true)
+returns-then-not-is_finite c = rw (c.if-weight.true, ← c.is_finite.ensures, c.if-not-is_finite.true)
 
-pub returns-then-weight : goal.returns-then-weight
+pub returns-else-not-is_finite : goal.returns-else-not-is_finite
 unfolding ◌and◌ ◌or◌
-returns-then-weight c = rw (c.if-weight.true, ← c.is_finite.ensures, c.if-is_finite.false)
+returns-else-not-is_finite c = rw (c.if-weight.true, ← c.is_finite.ensures, c.if-not-is_finite.false)
 
-pub returns : goal.returns
+pub returns-else-weight : goal.returns-else-weight
 unfolding ◌and◌ ◌or◌
-returns c = rw c.if-weight.false
+returns-else-weight c = rw c.if-weight.false

@@ -3,10 +3,10 @@ use borrow.Author.Tests.{lt-leb, le-leb}
 use Rattle.doubles.specs.Num.{◌and◌}
 use Rattle.worksets.proofs.inner.start_in_range.Goals as goal
 
-pub returns-then-start-lt1 : goal.returns-then-start-lt1
+pub returns-then-start-ge1 : goal.returns-then-start-ge1
 unfolding ◌and◌
-returns-then-start-lt1 c = rw (lt-leb _ _ c.if-start-lt1.true)
+returns-then-start-ge1 c = rw (le-leb _ _ c.if-start-ge1.true)
 
-pub returns : goal.returns
+pub returns-else-start-ge1 : goal.returns-else-start-ge1
 unfolding ◌and◌
-returns c = rw (le-leb _ _ c.if-start-lt1.false)
+returns-else-start-ge1 c = rw (lt-leb _ _ c.if-start-ge1.false)
