@@ -3,17 +3,11 @@ use Rattle.std.specs.Prelude.{Bool, not, List, ℕ, leb, eqb, length, Float}
 use Rattle.std.specs.Float.Ieee.{lt}
 use Rattle.doubles.specs.Num.{#0, at, finite, ◌and◌, ◌or◌}
 use Rattle.doubles.specs.Buffer.{put}
-use Rattle.doubles.specs.Answer.{Outcome, refused, answered}
+use Rattle.doubles.specs.Answer.{Outcome}
 use Rattle.designs.specs.Search.{first_of, mark}
 use Rattle.doubles.specs.Answer.{Fault, none, unless_at, unless, after, left}
 use Rattle.designs.specs.Checks.{told}
 use Rattle.definition.specs.WorkingSet.{is_zero, size, working_set, padded}
-use Rattle.worksets.specs.declared.WorkingSet.{WorkingSet}
-
--- what the answer stands for: a refusal, or the size
-abbrev pub size_of : WorkingSet → Outcome ℕ
-size_of (WorkingSet.Refused r) = refused r.number r.place
-size_of (WorkingSet.Size n) = answered n
 
 -- 8: "at a zero weight the violation is NaN, infinite or negative"
 unfoldable pub bad_violation : List Float → List Float → ℕ → Bool

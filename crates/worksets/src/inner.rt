@@ -8,7 +8,6 @@ ghost use Rattle.definition.specs.WorkingSet as def;
 ghost use Rattle.selection.specs.Inner.Heap.{Numbers};
 ghost use Rattle.worksets.specs.Call as calls;
 
-use designs::Found;
 use doubles::is_finite;
 use selection::rank;
 
@@ -35,16 +34,16 @@ fn is_bad_violation(violation: f64, weight: f64) -> bool
     weight == 0.0 && (!is_finite(violation) || violation < 0.0)
 }
 
-pub fn first_bad_violation(kkt: &[f64], w: &[f64]) -> Found
+pub fn first_bad_violation(kkt: &[f64], w: &[f64]) -> Option<usize>
     requires { length kkt.now ≡ length w.now }
     ensures { result ≡ first_of (λ j. mark (calls.bad_violation kkt.now w.now j) j) (length w.now) }
 {
     for j in 0..w.len() {
         if is_bad_violation(kkt[j], w[j]) {
-            return Found::At(j);
+            return Some(j);
         }
     }
-    Found::Nowhere
+    None
 }
 
 // ---- the set

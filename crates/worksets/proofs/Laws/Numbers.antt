@@ -6,7 +6,7 @@ use lib.ListN.{length}
 use lib.Ieee.{Float, lt}
 use Rattle.doubles.specs.Num.{#0, at, finite, ◌and◌, ◌or◌}
 use Rattle.designs.specs.Search.{first_of, mark}
-use Rattle.designs.specs.declared.Found.TheVariants.{Nowhere}
+use Rattle.std.specs.Prelude.{None}
 use Rattle.designs.proofs.Laws.Search.{first-none, unmarked}
 use Rattle.definition.specs.WorkingSet.{is_zero}
 use Rattle.worksets.specs.Call.{bad_violation}
@@ -18,7 +18,7 @@ good true true t e h = refl
 good true false t e h = absurd (true≢false e)
 good false f t e h = absurd (true≢false (sym h))
 
-pub numbers_of : (v w : List Float) → first_of (λ j. mark (bad_violation v w j) j) (length w) ≡ Nowhere → Numbers v w
+pub numbers_of : (v w : List Float) → first_of (λ j. mark (bad_violation v w j) j) (length w) ≡ None → Numbers v w
 unfolding bad_violation
 numbers_of v w e = record {
   each = λ j h z.

@@ -42,18 +42,18 @@ module _ (v w : List Float) (start : ℕ) (indices : List ℕ) where
 
 pub returns-then-not-lengths_agree : goal.returns-then-not-lengths_agree
 unfolding ws_fault
-returns-then-not-lengths_agree c = refused_as _ _ _ _ _ 1 0 c.refused.ensures (rw (← c.lengths_agree.ensures, c.if-not-lengths_agree.true))
+returns-then-not-lengths_agree c = refused_as _ _ _ _ _ 1 0 (rw c.at.ensures) (rw (← c.lengths_agree.ensures, c.if-not-lengths_agree.true))
 
 pub returns-then-not-start_in_range : goal.returns-then-not-start_in_range
 unfolding ws_fault
 returns-then-not-start_in_range c =
-    refused_as _ _ _ _ _ 2 2 c.refused-then-not-start_in_range.ensures
+    refused_as _ _ _ _ _ 2 2 (rw c.at-then-not-start_in_range.ensures)
     (rw (← c.lengths_agree.ensures, c.if-not-lengths_agree.false, ← c.start_in_range.ensures, c.if-not-start_in_range.true))
 
 pub returns-then-indices-p : goal.returns-then-indices-p
 unfolding ws_fault
 returns-then-indices-p c =
-    refused_as _ _ _ _ _ 3 0 c.refused-then-indices-p.ensures
+    refused_as _ _ _ _ _ 3 0 (rw c.at-then-indices-p.ensures)
     (rw (
       ← c.lengths_agree.ensures,
       c.if-not-lengths_agree.false,
@@ -66,10 +66,10 @@ pub first_bad_violation-requires : goal.first_bad_violation-requires
 first_bad_violation-requires c =
     (agreed _ _ _ c.lengths_agree.ensures c.if-not-lengths_agree.false).1
 
-pub returns-in-At : goal.returns-in-At
+pub returns-in-Some : goal.returns-in-Some
 unfolding ws_fault
-returns-in-At c =
-    refused_as _ _ _ _ _ 8 _ c.refused-in-At.ensures
+returns-in-Some c =
+    refused_as _ _ _ _ _ 8 c.in-Some.j (rw c.at-in-Some.ensures)
     (rw (
       ← c.lengths_agree.ensures,
       c.if-not-lengths_agree.false,
@@ -77,7 +77,7 @@ returns-in-At c =
       c.if-not-start_in_range.false,
       le-leb _ _ c.if-indices-p.false,
       ← c.first_bad_violation.ensures,
-      c.in-At.is,
+      c.in-Some.is,
     ))
 
 pub slice_bounds-construct_ws-end-2 : goal.slice_bounds-construct_ws-end-2
