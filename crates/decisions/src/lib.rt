@@ -5,19 +5,19 @@
 ghost use Rattle.std.specs.Prelude.{◌≡◌, ◌+◌, ◌≤◌, ◌<◌, length};
 ghost use Rattle.std.specs.Float.Ieee.{le, lt};
 ghost use Rattle.doubles.specs.Num as num;
-ghost use Rattle.doubles.specs.Answer.{none, verdict_of};
-ghost use Rattle.designs.specs.Given.{given};
+ghost use Rattle.doubles.specs.Answer.{none, outcome_of};
+ghost use Rattle.designs.specs.Given.{handed};
 ghost use Rattle.definition.specs.WorkingSet as set';
 ghost use Rattle.definition.specs.Run as def;
 ghost use Rattle.definition.specs.Preparation as prep;
 ghost use Rattle.definition.specs.Call as call;
 ghost use Rattle.definition.specs.Walk as walk;
+ghost use Rattle.definition.specs.declared.Status.TheVariants.{Met, Spent};
 
-use definition::{Report, Settings};
-use designs::Shape;
+use definition::{Report, Settings, Status};
 use designs::inner::sizes_agree;
-use doubles::inner::{both, refused};
-use doubles::{Verdict, is_finite};
+use designs::{Matrix, Shape};
+use doubles::{Reason, Refusal, is_finite};
 use penalties::inner::{alpha_in_range, check_range, with_alpha};
 
 // ---- settings
@@ -36,42 +36,33 @@ fn start_in_range(settings: Settings) -> bool
 }
 
 // 2, for the first setting that is outside its range; its place is the setting's index, and the penalty's two come last.
-pub fn check_settings(settings: Settings) -> Verdict
-    ensures { verdict_of result ≡ call.settings_fault settings }
+pub fn check_settings(settings: Settings) -> Result<(), Refusal>
+    ensures { outcome_of result ≡ call.settings_fault settings }
 {
     if 1000 < settings.iterations {
-        return refused(2, 0);
+        return Err(Reason::Setting.at(0));
     }
     if 100000 < settings.epochs {
-        return refused(2, 1);
+        return Err(Reason::Setting.at(1));
     }
     if !start_in_range(settings) {
-        return refused(2, 2);
+        return Err(Reason::Setting.at(2));
     }
     if !depth_in_range(settings) {
-        return refused(2, 3);
+        return Err(Reason::Setting.at(3));
     }
     if !alpha_in_range(settings.tolerance) {
-        return refused(2, 4);
+        return Err(Reason::Setting.at(4));
     }
     check_range(settings.penalty)
 }
 
 // 1, then the settings' 2: what a solve tests before it looks at any room.
-pub fn check_early(
-    shape: Shape,
-    starts: &[u32],
-    rows: &[u32],
-    values: &[f64],
-    y: &[f64],
-    settings: Settings,
-) -> Verdict
-    ensures { let g = given shape starts.now rows.now values.now y.now in
-        verdict_of result ≡ call.early_fault g settings }
+pub fn check_early(x: &Matrix<'_>, y: &[f64], settings: Settings) -> Result<(), Refusal>
+    ensures { outcome_of result ≡ call.early_fault (handed x.now y.now) settings }
 {
-    let fits = y.len() == shape.n;
-    if !both(sizes_agree(shape, starts, rows, values), fits) {
-        return refused(1, 0);
+    if !sizes_agree(x) || y.len() != x.shape.n {
+        return Err(Reason::Sizes.at(0));
     }
     check_settings(settings)
 }
@@ -82,9 +73,10 @@ pub fn scratch_room(shape: Shape, settings: Settings) -> usize
     ensures { result ≡ call.scratch_room shape settings }
 {
     if settings.extrapolate {
-        return (2 * settings.depth + 3) * shape.p + shape.n;
+        (2 * settings.depth + 3) * shape.p + shape.n
+    } else {
+        shape.p
     }
-    shape.p
 }
 
 // ---- before the run: p constants, then the p entries of X'y
@@ -116,25 +108,17 @@ fn is_acceptable(constant: f64, xty: f64) -> bool
     is_usable_at(constant, xty) && !(constant < 0.0)
 }
 
-// Refusal 10 at a column.
-fn ten_at(j: usize) -> Verdict
-    requires { j ≤ 8192 }
-    ensures { verdict_of result ≡ Rattle.doubles.specs.Answer.refused 10 j }
-{
-    refused(10, j)
-}
-
 // 10, at the first column whose numbers may not be used; places beyond 2p are not looked at.
-pub fn check_handed(prepared: &[f64], p: usize) -> Verdict
+pub fn check_handed(prepared: &[f64], p: usize) -> Result<(), Refusal>
     requires { (p ≤ 8192) × (p + p ≤ length prepared.now) }
-    ensures { verdict_of result ≡ call.handed_fault p prepared.now }
+    ensures { outcome_of result ≡ call.handed_fault p prepared.now }
 {
     for j in 0..p {
         if !is_acceptable(prepared[j], prepared[p + j]) {
-            return ten_at(j);
+            return Err(Reason::Prepared.at(j));
         }
     }
-    Verdict::Fine
+    Ok(())
 }
 
 // The start size, capped at p.
@@ -158,18 +142,23 @@ pub fn is_enough(everything: bool, tolerance: f64, outer: f64, v: f64) -> bool
     ensures { result ≡ num.pick everything (le v tolerance) (lt v (num.◌⊗◌ def.#0·3 outer)) }
 {
     if everything {
-        return v <= tolerance;
+        v <= tolerance
+    } else {
+        v < 0.3 * outer
     }
-    v < 0.3 * outer
 }
 
 // ---- at the end
 
-// Status is 1 if the violation is at most the tolerance, else 2.
-pub fn status(violation: f64, tolerance: f64) -> u32
-    ensures { result ≡ num.pick (le violation tolerance) 1 2 }
+// The tolerance is met if the violation is at most that.
+pub fn status(violation: f64, tolerance: f64) -> Status
+    ensures { result ≡ num.pick (le violation tolerance) Met Spent }
 {
-    if violation <= tolerance { 1 } else { 2 }
+    if violation <= tolerance {
+        Status::Met
+    } else {
+        Status::Spent
+    }
 }
 
 // ---- a walk over a list of alphas
@@ -208,18 +197,18 @@ fn list_in_range(alphas: &[f64]) -> bool
 }
 
 // 2 at 7, behind the places of the settings.
-pub fn check_list(alphas: &[f64]) -> Verdict
-    ensures { verdict_of result ≡ walk.list_fault alphas.now }
+pub fn check_list(alphas: &[f64]) -> Result<(), Refusal>
+    ensures { outcome_of result ≡ walk.list_fault alphas.now }
 {
-    if list_in_range(alphas) {
-        return Verdict::Fine;
+    if !list_in_range(alphas) {
+        return Err(Reason::Setting.at(7));
     }
-    refused(2, 7)
+    Ok(())
 }
 
 // Whether a fit with so many nonzero weights is what a walk looks for.
 pub fn is_wanted(report: Report, nonzero: usize, most: usize) -> bool
     ensures { result ≡ walk.wanted most report nonzero }
 {
-    report.status == 1 && nonzero <= most
+    report.status == Status::Met && nonzero <= most
 }

@@ -1,5 +1,5 @@
 -- `check_handed`: the search upward, so far nothing was found. Assumes nothing.
-use mathlib.Core.Path.{ap, ◌∙◌}
+use mathlib.Core.Path.{ap}
 use mathlib.Core.Bool.{not}
 use Rattle.doubles.specs.Answer.{none}
 use Rattle.doubles.proofs.Laws.Steps.{steps-none, steps_all}
@@ -16,10 +16,10 @@ unfolding handed_fault
 returns-then-not-is_acceptable c =
     let a = c.args in
     let b = ap not c.is_acceptable.ensures in
-    c.ten_at.ensures
-    ∙ ap (λ f. told 10 f none)
+    rw c.at.ensures
+    (ap (λ f. told 10 f none)
     (mark_here (λ k. not (acceptable_at a.p a.prepared.now k)) (λ k. k) _ _ c.loop-j.invariant b _ (ap not c.if-not-is_acceptable.true)
-    c.loop-j-test.true)
+    c.loop-j-test.true))
 
 pub loop-j-preserved : goal.loop-j-preserved
 loop-j-preserved c =

@@ -2,9 +2,9 @@
 use mathlib.Core.Path.{◌≡◌}
 use mathlib.Core.Bool.{not}
 use Rattle.designs.specs.Search.{first_of, mark}
-use Rattle.designs.specs.declared.Found.TheVariants.{Nowhere}
+use Rattle.std.specs.Prelude.{None}
 use Rattle.definition.specs.Call.{acceptable_at}
 use Rattle.decisions.proofs.check_handed.Given as goal
 
 abbrev pub invariant-loop-j : goal.invariant-loop-j
-invariant-loop-j l = Nowhere ≡ first_of (λ k. mark (not (acceptable_at l.p l.prepared k)) k) l.j
+invariant-loop-j l = None ≡ first_of (λ k. mark (not (acceptable_at l.p l.prepared k)) k) l.j

@@ -27,27 +27,27 @@ depth-legal c = start-legal c.before.before ∙ rw (sym c.depth_in_range.ensures
 
 pub returns-then-settings-gt1000 : goal.returns-then-settings-gt1000
 unfolding settings_fault
-returns-then-settings-gt1000 c = c.refused.ensures ∙ rw (lt-leb _ _ c.if-settings-gt1000.true)
+returns-then-settings-gt1000 c = rw (c.at.ensures, lt-leb _ _ c.if-settings-gt1000.true)
 
 pub returns-then-settings-gt100000 : goal.returns-then-settings-gt100000
 returns-then-settings-gt100000 c =
     let here = goal.at.returns-then-settings-gt100000 c in
-    c.refused-then-settings-gt100000.ensures ∙ rw (few-iterations here.Else-settings-gt1000, lt-leb _ _ c.if-settings-gt100000.true)
+    rw (c.at-then-settings-gt100000.ensures, few-iterations here.Else-settings-gt1000, lt-leb _ _ c.if-settings-gt100000.true)
 
 pub returns-then-not-start_in_range : goal.returns-then-not-start_in_range
 returns-then-not-start_in_range c =
     let here = goal.at.returns-then-not-start_in_range c in
-    c.refused-then-not-start_in_range.ensures ∙ rw (few-epochs here.Else-settings-gt100000, ← c.start_in_range.ensures, c.if-not-start_in_range.true)
+    rw (c.at-then-not-start_in_range.ensures, few-epochs here.Else-settings-gt100000, ← c.start_in_range.ensures, c.if-not-start_in_range.true)
 
 pub returns-then-not-depth_in_range : goal.returns-then-not-depth_in_range
 returns-then-not-depth_in_range c =
     let here = goal.at.returns-then-not-depth_in_range c in
-    c.refused-then-not-depth_in_range.ensures ∙ rw (start-legal here.Else-not-start_in_range, ← c.depth_in_range.ensures, c.if-not-depth_in_range.true)
+    rw (c.at-then-not-depth_in_range.ensures, start-legal here.Else-not-start_in_range, ← c.depth_in_range.ensures, c.if-not-depth_in_range.true)
 
 pub returns-then-not-alpha_in_range : goal.returns-then-not-alpha_in_range
 returns-then-not-alpha_in_range c =
     let here = goal.at.returns-then-not-alpha_in_range c in
-    c.refused-then-not-alpha_in_range.ensures ∙ rw (depth-legal here.Else-not-depth_in_range, ← c.alpha_in_range.ensures, c.if-not-alpha_in_range.true)
+    rw (c.at-then-not-alpha_in_range.ensures, depth-legal here.Else-not-depth_in_range, ← c.alpha_in_range.ensures, c.if-not-alpha_in_range.true)
 
 pub returns : goal.returns
 returns c =

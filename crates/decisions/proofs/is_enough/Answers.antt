@@ -4,5 +4,5 @@ use Rattle.decisions.proofs.is_enough.Goals as goal
 pub returns-then-everything : goal.returns-then-everything
 returns-then-everything c = rw c.if-everything.true
 
-pub returns : goal.returns
-returns c = rw c.if-everything.false
+pub returns-else-everything : goal.returns-else-everything
+returns-else-everything c = rw c.if-everything.false

@@ -27,6 +27,6 @@ pub returns-then-settings : goal.returns-then-settings
 unfolding scratch_room
 returns-then-settings c = rw c.if-settings.true
 
-pub returns : goal.returns
+pub returns-else-settings : goal.returns-else-settings
 unfolding scratch_room
-returns c = rw c.if-settings.false
+returns-else-settings c = rw c.if-settings.false
