@@ -76,14 +76,6 @@ fn is_better(y: &[f64], penalty: Penalty, w: &[f64], fit: &[f64], before: f64) -
     objective(y, penalty, w, fit) < before && all_finite(w) && all_finite(fit)
 }
 
-// The places of one slice become those of another.
-fn copy(from: &[f64], to: &mut [f64])
-    requires { length to.old ≡ length from.now }
-    ensures { to.new ≡ from.now }
-{
-    to.copy_from_slice(from);
-}
-
 // ---- the step
 
 // Where the parts of the scratch begin that the extrapolation uses: behind the violations come K+1 rows of p places, K rows that stay
@@ -135,14 +127,17 @@ fn make_candidate(
 {
     let kept = Kept { depth, p: shape.p };
     let at = lay_out(shape.n, kept);
-    let a = at.kept;
-    let b = at.until;
-    let o = at.old;
-    let f = at.fit;
-    let e = at.end;
-    copy(w, &mut scratch[o..f]);
-    write_candidate(&scratch[a..b], kept, c, ws, w);
-    extrapolated_fit(shape, starts, rows, values, ws, w, &mut scratch[f..e]);
+    scratch[at.old..at.fit].copy_from_slice(w);
+    write_candidate(&scratch[at.kept..at.until], kept, c, ws, w);
+    extrapolated_fit(
+        shape,
+        starts,
+        rows,
+        values,
+        ws,
+        w,
+        &mut scratch[at.fit..at.end],
+    );
 }
 
 // The candidate keeps its place and its fit replaces the fit if it is better, else the weights come back; the number accepted, 0 or 1.
@@ -162,10 +157,10 @@ fn choose(
         ≡ places.chosen_by penalty y.now before candidate (places.point_with old.now fit.old) }
 {
     if is_better(y, penalty, w, new, before) {
-        copy(new, fit);
+        fit.copy_from_slice(new);
         return 1;
     }
-    copy(old, w);
+    w.copy_from_slice(old);
     0
 }
 
@@ -194,13 +189,18 @@ fn try_candidate(
 {
     let kept = Kept { depth, p: shape.p };
     let at = lay_out(shape.n, kept);
-    let o = at.old;
-    let f = at.fit;
-    let e = at.end;
     let c = coefficients(z, depth);
     let before = objective(y, penalty, w, fit);
     make_candidate(shape, starts, rows, values, depth, c, ws, w, scratch);
-    choose(y, penalty, before, &scratch[o..f], &scratch[f..e], w, fit)
+    choose(
+        y,
+        penalty,
+        before,
+        &scratch[at.old..at.fit],
+        &scratch[at.fit..at.end],
+        w,
+        fit,
+    )
 }
 
 // The extrapolation from K+1 kept rows; the number accepted.
@@ -227,9 +227,7 @@ fn extrapolate(
 {
     let kept = Kept { depth, p: shape.p };
     let at = lay_out(shape.n, kept);
-    let a = at.kept;
-    let b = at.until;
-    let m = eliminate(system(&scratch[a..b], kept, ws.len()), depth);
+    let m = eliminate(system(&scratch[at.kept..at.until], kept, ws.len()), depth);
     if !is_regular(m, depth) {
         return 0;
     }
@@ -266,9 +264,7 @@ pub fn anderson_accel(
     let row = e % (depth + 1);
     let kept = Kept { depth, p: shape.p };
     let at = lay_out(shape.n, kept);
-    let a = at.kept;
-    let b = at.until;
-    keep(ws, w, row * shape.p, &mut scratch[a..b]);
+    keep(ws, w, row * shape.p, &mut scratch[at.kept..at.until]);
     if row != depth {
         return 0;
     }

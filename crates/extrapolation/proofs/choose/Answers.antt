@@ -8,7 +8,7 @@ returns-then-is_better c =
     rw (
       ← c.is_better.ensures,
       c.if-is_better.true,
-      c.copy.ensures,
+      c.copy_from_slice.ensures.after,
     )
 
 pub returns : goal.returns
@@ -17,5 +17,5 @@ returns c =
     rw (
       ← c.is_better.ensures,
       c.if-is_better.false,
-      c.copy-2.ensures,
+      c.copy_from_slice-2.ensures.after,
     )
