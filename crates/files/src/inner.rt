@@ -38,10 +38,8 @@ pub fn put_doubles(file: &[u8], from: usize, many: usize, buf: &mut [f64], to: u
     requires { (from + 8 * many ≤ length file.now) × (length file.now ≤ 49152) × (to + many ≤ length buf.old) }
     ensures { buf.new ≡ put buf.old to (def.doubles file.now from many) }
 {
-    let mut i = 0;
-    while i < many {
+    for i in 0..many {
         buf[to + i] = f64_at(file, from + 8 * i);
-        i += 1;
     }
 }
 
@@ -50,9 +48,7 @@ pub fn put_indices(file: &[u8], from: usize, many: usize, buf: &mut [u32], to: u
     requires { (from + 4 * many ≤ length file.now) × (length file.now ≤ 49152) × (to + many ≤ length buf.old) }
     ensures { buf.new ≡ put buf.old to (def.indices file.now from many) }
 {
-    let mut i = 0;
-    while i < many {
+    for i in 0..many {
         buf[to + i] = u32_at(file, from + 4 * i) as u32;
-        i += 1;
     }
 }
