@@ -9,14 +9,14 @@ pub fn u16_at(file: &[u8], at: usize) -> usize
     requires { (at + 2 ≤ length file.now) × (length file.now ≤ 49152) }
     ensures { (result ≡ def.u16 file.now at) × (result < 65536) }
 {
-    file[at] as usize + 256 * (file[at + 1] as usize)
+    u16::from_le_bytes([file[at], file[at + 1]]) as usize
 }
 
 pub fn u32_at(file: &[u8], at: usize) -> usize
     requires { (at + 4 ≤ length file.now) × (length file.now ≤ 49152) }
     ensures { (result ≡ def.u32 file.now at) × (result < 4294967296) }
 {
-    u16_at(file, at) + 65536 * u16_at(file, at + 2)
+    u32::from_le_bytes([file[at], file[at + 1], file[at + 2], file[at + 3]]) as usize
 }
 
 fn u64_at(file: &[u8], at: usize) -> u64
