@@ -17,7 +17,7 @@ use Rattle.doubles.proofs.Laws.Buffer.{length-put, put-behind}
 use Rattle.files.specs.Bytes.{u32, f64, doubles, indices}
 use Rattle.files.specs.Problem.{Read, nothing_read, tag_at, length_at, whole, stored, good_header, good_field, good_at, good, joined, next_read, read_on}
 use Rattle.files.specs.Problem.{read_all}
-use Rattle.files.specs.Inner.Places.{Header, Headed, Counted, grown_by, advanced, Space, Suffice, stored_in, indexed_in, kept_if}
+use Rattle.files.specs.Inner.Places.{Header, Counted, grown_by, advanced, Space, Suffice, stored_in, indexed_in, kept_if}
 use Rattle.files.specs.declared.Cursor.{Cursor}
 use Rattle.files.proofs.Laws.Fields.{head_inside, body_inside, header-long}
 
@@ -255,9 +255,6 @@ module _ (f : List ℕ) (keep : Bool) (t₀ v₀ : List Float) (s₀ r₀ : List
 
       pub space_now : keep ≡ true → Space f c (length t) (length v) (length s) (length r)
       space_now k = let e = walked-lengths in rw (e.0, e.1, e.2, e.3) (here_space k)
-
-      pub next-within : (d : Cursor) → d ≡ advanced f c → (d.at ≤ length f) × (d.values ≤ 4096) × Headed f d.at
-      next-within d e = let C = counts-next f c W.so_far W.counts here_good in rw e (C.within, C.few-values, C.headed)
 
       pub next_less : (d : Cursor) → d ≡ advanced f c → length f - d.at < length f - c.at
       unfolding advanced
