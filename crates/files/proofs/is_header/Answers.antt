@@ -73,8 +73,8 @@ pub returns-then-penalty-le2 : goal.returns-then-penalty-le2
 unfolding ◌and◌
 returns-then-penalty-le2 c =
     let h = c.if-penalty-le2.true in
-    let e = coded _ c.if-file-ne1.false c.u16_at.ensures.0 c.if-u16_at-ne48.false c.u32_at-n.ensures.0 c.u32_at-p.ensures.0 c.if-n-gt256.false c.if-p-gt32.false in
-    rw (e, le-leb _ _ h.0, le-leb _ _ h.1)
+    let e = coded _ c.if-file-ne1.false c.u16_at.ensures.0 c.if-u16_at-ne48.false c.u32_at-n.ensures.0 c.u32_at-p.ensures.0 in
+    rw (e c.if-n-gt256.false c.if-p-gt32.false, le-leb _ _ h.0, le-leb _ _ h.1)
 
 pub returns-else-penalty-le2 : goal.returns-else-penalty-le2
 returns-else-penalty-le2 c =
