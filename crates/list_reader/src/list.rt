@@ -49,20 +49,22 @@ fn fail(rt: &impl Eprint, path: &[u8], why: impl Display + Drop) {
     }
 }
 
-// Counts the record that was found, and reads on to the one after it.
-pub fn next(
-    rt: &(impl Print + Eprint),
-    p: &mut Progress,
-    compared: Compared,
-    path: &[u8],
-    bytes: &mut Bytes,
-    words: &mut Words,
-)
-    requires { ProgressWithin p.old × (0 < p.old.left) }
-    ensures { ProgressWithin p.new × (p.new.left < p.old.left) }
-{
-    p.count(rt, compared);
-    read_on(rt, p, path, bytes, words);
+impl Progress {
+    // Counts the record that was found, and reads on to the one after it.
+    pub fn next(
+        &mut self,
+        rt: &(impl Print + Eprint),
+        compared: Compared,
+        path: &[u8],
+        bytes: &mut Bytes,
+        words: &mut Words,
+    )
+        requires { ProgressWithin self.old × (0 < self.old.left) }
+        ensures { ProgressWithin self.new × (self.new.left < self.old.left) }
+    {
+        self.count(rt, compared);
+        read_on(rt, self, path, bytes, words);
+    }
 }
 
 // The list is over: there is no more to read.
