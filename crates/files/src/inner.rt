@@ -9,14 +9,14 @@ pub fn u16_at(file: &[u8], at: usize) -> usize
     requires { (at + 2 ≤ length file.now) × (length file.now ≤ 49152) }
     ensures { (result ≡ def.u16 file.now at) × (result < 65536) }
 {
-    file[at] as usize + 256 * (file[at + 1] as usize)
+    u16::from_le_bytes([file[at], file[at + 1]]) as usize
 }
 
 pub fn u32_at(file: &[u8], at: usize) -> usize
     requires { (at + 4 ≤ length file.now) × (length file.now ≤ 49152) }
     ensures { (result ≡ def.u32 file.now at) × (result < 4294967296) }
 {
-    u16_at(file, at) + 65536 * u16_at(file, at + 2)
+    u32::from_le_bytes([file[at], file[at + 1], file[at + 2], file[at + 3]]) as usize
 }
 
 fn u64_at(file: &[u8], at: usize) -> u64
@@ -38,10 +38,8 @@ pub fn put_doubles(file: &[u8], from: usize, many: usize, buf: &mut [f64], to: u
     requires { (from + 8 * many ≤ length file.now) × (length file.now ≤ 49152) × (to + many ≤ length buf.old) }
     ensures { buf.new ≡ put buf.old to (def.doubles file.now from many) }
 {
-    let mut i = 0;
-    while i < many {
+    for i in 0..many {
         buf[to + i] = f64_at(file, from + 8 * i);
-        i += 1;
     }
 }
 
@@ -50,9 +48,7 @@ pub fn put_indices(file: &[u8], from: usize, many: usize, buf: &mut [u32], to: u
     requires { (from + 4 * many ≤ length file.now) × (length file.now ≤ 49152) × (to + many ≤ length buf.old) }
     ensures { buf.new ≡ put buf.old to (def.indices file.now from many) }
 {
-    let mut i = 0;
-    while i < many {
+    for i in 0..many {
         buf[to + i] = u32_at(file, from + 4 * i) as u32;
-        i += 1;
     }
 }

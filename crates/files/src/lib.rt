@@ -50,25 +50,18 @@ fn is_header(file: &[u8]) -> bool
     requires { (def.whole file.now 0 ≡ true) × (length file.now ≤ 49152) }
     ensures { result ≡ def.good_header file.now }
 {
-    if file[0] != 1 {
+    if file[0] != 1 || u16_at(file, 1) != 48 {
         return false;
     }
-    if u16_at(file, 1) != 48 {
+    let n = u32_at(file, 3);
+    let p = u32_at(file, 7);
+    if 256 < n || 32 < p {
         return false;
     }
-    if 256 < u32_at(file, 3) {
-        return false;
-    }
-    if 32 < u32_at(file, 7) {
-        return false;
-    }
-    if 1 < file[11] {
-        return false;
-    }
-    if 2 < file[12] {
-        return false;
-    }
-    file[13] <= 1
+    let design = file[11];
+    let penalty = file[12];
+    let extrapolate = file[13];
+    design <= 1 && penalty <= 2 && extrapolate <= 1
 }
 
 fn shape_of(file: &[u8]) -> Shape
@@ -81,7 +74,7 @@ fn shape_of(file: &[u8]) -> Shape
         Layout::Dense
     };
     Shape {
-        layout: layout,
+        layout,
         n: u32_at(file, 3),
         p: u32_at(file, 7),
     }
@@ -93,18 +86,16 @@ fn penalty_of(file: &[u8]) -> Penalty
 {
     let alpha = f64_at(file, 35);
     let second = f64_at(file, 43);
-    if file[12] == 0 {
-        return Penalty::L1 { alpha: alpha };
-    }
-    if file[12] == 1 {
-        return Penalty::L1PlusL2 {
-            alpha: alpha,
+    match file[12] {
+        0 => Penalty::L1 { alpha },
+        1 => Penalty::L1PlusL2 {
+            alpha,
             l1_ratio: second,
-        };
-    }
-    Penalty::MCP {
-        alpha: alpha,
-        gamma: second,
+        },
+        _ => Penalty::MCP {
+            alpha,
+            gamma: second,
+        },
     }
 }
 
@@ -112,9 +103,8 @@ fn settings_of(file: &[u8]) -> Settings
     requires { (51 ≤ length file.now) × (length file.now ≤ 49152) }
     ensures { result ≡ def.header_settings file.now }
 {
-    let penalty = penalty_of(file);
     Settings {
-        penalty: penalty,
+        penalty: penalty_of(file),
         tolerance: f64_at(file, 27),
         start: u32_at(file, 15),
         iterations: u32_at(file, 19),
@@ -131,10 +121,7 @@ fn is_whole(file: &[u8], at: usize) -> bool
     requires { (at ≤ length file.now) × (length file.now ≤ 49152) }
     ensures { result ≡ def.whole file.now at }
 {
-    if file.len() < at + 3 {
-        return false;
-    }
-    at + 3 + u16_at(file, at + 1) <= file.len()
+    at + 3 <= file.len() && at + 3 + u16_at(file, at + 1) <= file.len()
 }
 
 // Tags 2 and 3, and for a sparse design 4 and 5.
@@ -142,13 +129,8 @@ fn is_known(file: &[u8], tag: usize) -> bool
     requires { 12 ≤ length file.now }
     ensures { result ≡ def.known_tag file.now tag }
 {
-    if tag < 2 {
-        return false;
-    }
-    if file[11] == 1 {
-        return tag <= 5;
-    }
-    tag <= 3
+    let last = if file[11] == 1 { 5 } else { 3 };
+    2 <= tag && tag <= last
 }
 
 // Doubles have 8 bytes, indices 4.
@@ -163,10 +145,7 @@ fn is_stored(tag: usize, values: usize, many: usize) -> bool
     requires { (values ≤ 4096) × (many ≤ 8192) }
     ensures { result ≡ def.stored tag values many }
 {
-    if tag == 3 {
-        return values + many <= 4096;
-    }
-    true
+    tag != 3 || values + many <= 4096
 }
 
 // Whether a field behind the header, which is not cut, is one that may come next.
@@ -174,32 +153,24 @@ fn is_field(file: &[u8], c: Cursor) -> bool
     requires { (def.whole file.now c.at ≡ true) × (12 ≤ length file.now) × (length file.now ≤ 49152) × (c.values ≤ 4096) }
     ensures { result ≡ def.good_field file.now c.at c.tag c.values }
 {
-    let at = c.at;
-    let tag = file[at] as usize;
-    let many = u16_at(file, at + 1);
-    if is_known(file, tag) {} else {
-        return false;
-    }
-    if tag < c.tag {
-        return false;
-    }
-    if many % size_of(tag) != 0 {
-        return false;
-    }
-    is_stored(tag, c.values, many / 8)
+    let tag = file[c.at] as usize;
+    let many = u16_at(file, c.at + 1);
+    let no_rest = many % size_of(tag) == 0;
+    is_known(file, tag) && c.tag <= tag && no_rest && is_stored(tag, c.values, many / 8)
 }
 
 fn is_good(file: &[u8], c: Cursor) -> bool
     requires { (c.at ≤ length file.now) × (length file.now ≤ 49152) × (c.values ≤ 4096) × here.Headed file.now c.at }
     ensures { result ≡ def.good_at file.now c.at c.tag c.values }
 {
-    if is_whole(file, c.at) {} else {
+    if !is_whole(file, c.at) {
         return false;
     }
     if c.at == 0 {
-        return is_header(file);
+        is_header(file)
+    } else {
+        is_field(file, c)
     }
-    is_field(file, c)
 }
 
 // Behind the field at the cursor.
@@ -208,12 +179,11 @@ fn advance(file: &[u8], c: Cursor) -> Cursor
         × (c.targets ≤ 6144) × (c.values ≤ 4096) × (c.starts ≤ 12288) × (c.rows ≤ 12288) }
     ensures { result ≡ here.advanced file.now c }
 {
-    let at = c.at;
-    let tag = file[at] as usize;
-    let many = u16_at(file, at + 1);
+    let tag = file[c.at] as usize;
+    let many = u16_at(file, c.at + 1);
     Cursor {
-        at: at + 3 + many,
-        tag: tag,
+        at: c.at + 3 + many,
+        tag,
         targets: grown(c.targets, tag == 2, many / 8),
         values: grown(c.values, tag == 3, many / 8),
         starts: grown(c.starts, tag == 4, many / 4),
@@ -225,10 +195,7 @@ fn grown(count: usize, gains: bool, many: usize) -> usize
     requires { (count ≤ 12288) × (many ≤ 16384) }
     ensures { result ≡ here.grown_by count gains many }
 {
-    if gains {
-        return count + many;
-    }
-    count
+    if gains { count + many } else { count }
 }
 
 // The elements of the field at the cursor, behind those of its array that were read before, if they are to be kept.
@@ -248,27 +215,17 @@ fn store(
         × (starts.new ≡ here.indexed_in keep file.now c.at 4 starts.old c.starts)
         × (rows.new ≡ here.indexed_in keep file.now c.at 5 rows.old c.rows) }
 {
-    if keep {} else {
+    if !keep {
         return;
     }
-    let at = c.at;
-    let tag = file[at];
-    let many = u16_at(file, at + 1);
-    let body = at + 3;
-    if tag == 2 {
-        put_doubles(file, body, many / 8, targets, c.targets);
-        return;
-    }
-    if tag == 3 {
-        put_doubles(file, body, many / 8, values, c.values);
-        return;
-    }
-    if tag == 4 {
-        put_indices(file, body, many / 4, starts, c.starts);
-        return;
-    }
-    if tag == 5 {
-        put_indices(file, body, many / 4, rows, c.rows);
+    let many = u16_at(file, c.at + 1);
+    let body = c.at + 3;
+    match file[c.at] {
+        2 => put_doubles(file, body, many / 8, targets, c.targets),
+        3 => put_doubles(file, body, many / 8, values, c.values),
+        4 => put_indices(file, body, many / 4, starts, c.starts),
+        5 => put_indices(file, body, many / 4, rows, c.rows),
+        _ => {}
     }
 }
 
@@ -297,11 +254,9 @@ fn read_fields(
         starts: 0,
         rows: 0,
     };
-    let mut more = is_good(file, c);
-    while more {
+    while is_good(file, c) {
         store(file, keep, c, targets, values, starts, rows);
         c = advance(file, c);
-        more = is_good(file, c);
     }
     c
 }
@@ -311,34 +266,19 @@ fn read_fields(
 fn refused(number: u32, place: usize) -> Parsed
     ensures { (call.parsed_of result ≡ refused' number place) × call.Inside result }
 {
-    Parsed::Refused(Refusal {
-        number: number,
-        place: place,
-    })
+    Parsed::Refused(Refusal { number, place })
 }
 
 fn has_room(targets: &[f64], values: &[f64], starts: &[u32], rows: &[u32]) -> bool
     ensures { result ≡ call.places_suffice (call.places targets.now values.now starts.now rows.now) }
 {
-    if targets.len() < 6144 {
-        return false;
-    }
-    if values.len() < 4096 {
-        return false;
-    }
-    if starts.len() < 12288 {
-        return false;
-    }
-    12288 <= rows.len()
+    6144 <= targets.len() && 4096 <= values.len() && 12288 <= starts.len() && 12288 <= rows.len()
 }
 
 fn has_ended(file: &[u8], at: usize) -> bool
     ensures { result ≡ here.read_whole_at file.now at }
 {
-    if at == 0 {
-        return false;
-    }
-    at == file.len()
+    at != 0 && at == file.len()
 }
 
 // The problem of a file, its arrays in the first places of the lent ones.
@@ -359,18 +299,16 @@ pub fn read(
     }
     // Once to see that the file is good and nothing has to be refused, and then once more to keep its arrays.
     let c = read_fields(file, false, targets, values, starts, rows);
-    if has_ended(file, c.at) {} else {
+    if !has_ended(file, c.at) {
         return refused(9, c.at);
     }
-    if has_room(targets, values, starts, rows) {} else {
+    if !has_room(targets, values, starts, rows) {
         return refused(3, 0);
     }
     let d = read_fields(file, true, targets, values, starts, rows);
-    let shape = shape_of(file);
-    let settings = settings_of(file);
     Parsed::Read(Sizes {
-        shape: shape,
-        settings: settings,
+        shape: shape_of(file),
+        settings: settings_of(file),
         targets: d.targets,
         values: d.values,
         starts: d.starts,

@@ -18,14 +18,12 @@ pub fn same(a: f64, b: f64) -> bool
     ensures only { result ≡ true → a ≡ b }
     ensures all { a ≡ b → result ≡ true }
 {
-    if a != a {
-        b != b
+    if a.is_nan() {
+        b.is_nan()
     } else if a != 0.0 {
         a == b
-    } else if b != 0.0 {
-        false
     } else {
-        1.0 / a == 1.0 / b
+        b == 0.0 && 1.0 / a == 1.0 / b
     }
 }
 
@@ -68,11 +66,9 @@ fn spoilt(r: Reader) -> Reader
     ensures { result.count ≡ r.count }
 {
     Reader {
-        word: 0,
-        digits: 0,
         count: r.count,
-        comment: false,
         bad: true,
+        ..start()
     }
 }
 
@@ -80,11 +76,9 @@ fn commented(r: Reader) -> Reader
     ensures { result.count ≡ r.count }
 {
     Reader {
-        word: 0,
-        digits: 0,
         count: r.count,
         comment: true,
-        bad: false,
+        ..start()
     }
 }
 
@@ -103,18 +97,13 @@ fn with_digit(r: Reader, byte: u8) -> Reader
     ensures { result.count ≡ r.count }
 {
     let value = digit(byte);
-    if 15 < value {
-        return spoilt(r);
-    }
-    if 15 < r.digits {
+    if 15 < value || 15 < r.digits {
         return spoilt(r);
     }
     Reader {
         word: r.word << 4 | value as u64,
         digits: r.digits + 1,
-        count: r.count,
-        comment: r.comment,
-        bad: r.bad,
+        ..r
     }
 }
 
@@ -132,8 +121,7 @@ fn with_word(r: Reader, words: &mut [u64]) -> Reader
             word: 0,
             digits: 0,
             count: count + 1,
-            comment: r.comment,
-            bad: r.bad,
+            ..r
         }
     } else {
         spoilt(r)

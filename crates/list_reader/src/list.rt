@@ -3,7 +3,7 @@ ghost use Rattle.std.specs.Prelude.{◌≡◌, ◌<◌, ◌≤◌};
 ghost use Rattle.list_reader.specs.ProgressWithin.{ProgressWithin};
 
 use crate::progress::{Compared, Progress};
-use crate::{Fed, Reader, Words, feed, progress, start};
+use crate::{Fed, Words, feed, progress};
 use std::fmt::Display;
 use std::fs::File;
 use std::io::Read;
@@ -21,113 +21,72 @@ pub fn open<R: Files<File = File> + Print + Eprint>(
 ) -> Progress
     ensures { ProgressWithin result }
 {
-    match opened(rt, path) {
-        None => over(rt, progress::begin(None)),
-        Some(file) => read_on(rt, progress::begin(Some(file)), path, bytes, words),
+    let mut p = progress::begin(opened(rt, path));
+    if p.file.is_some() {
+        read_on(rt, &mut p, path, bytes, words);
+    } else {
+        over(rt, &mut p);
     }
+    p
 }
 
 // The list's file, or none where it does not open. std opens a file by a name in UTF-8.
 fn opened<R: Files<File = File> + Eprint>(rt: &R, path: &[u8]) -> Option<File> {
-    let name = match str::from_utf8(path) {
-        Err(error) => {
-            fail(rt, path, error);
-            return None;
-        }
-        Ok(name) => name,
-    };
-    match File::open(rt, name) {
-        Err(error) => {
-            fail(rt, path, error);
-            None
-        }
-        Ok(file) => Some(file),
-    }
+    let name = str::from_utf8(path)
+        .inspect_err(|error| fail(rt, path, error))
+        .ok()?;
+    File::open(rt, name)
+        .inspect_err(|error| fail(rt, path, error))
+        .ok()
 }
 
 // Says on standard error what failed, and why.
 fn fail(rt: &impl Eprint, path: &[u8], why: impl Display + Drop) {
-    match str::from_utf8(path) {
-        Err(_) => {
-            let _ = eprintln!(rt; "{path:?}: {why}");
-        }
-        Ok(name) => {
-            let _ = eprintln!(rt; "{name}: {why}");
-        }
+    if let Ok(name) = str::from_utf8(path) {
+        let _ = eprintln!(rt; "{name}: {why}");
+    } else {
+        let _ = eprintln!(rt; "{path:?}: {why}");
     }
 }
 
-// Counts the record that was found, and reads on to the one after it.
-pub fn next(
-    rt: &(impl Print + Eprint),
-    p: Progress,
-    compared: Compared,
-    path: &[u8],
-    bytes: &mut Bytes,
-    words: &mut Words,
-) -> Progress
-    requires { ProgressWithin p × (0 < p.left) }
-    ensures { ProgressWithin result × (result.left < p.left) }
-{
-    read_on(rt, progress::count(rt, p, compared), path, bytes, words)
+impl Progress {
+    // Counts the record that was found, and reads on to the one after it.
+    pub fn next(
+        &mut self,
+        rt: &(impl Print + Eprint),
+        compared: Compared,
+        path: &[u8],
+        bytes: &mut Bytes,
+        words: &mut Words,
+    )
+        requires { ProgressWithin self.old × (0 < self.old.left) }
+        ensures { ProgressWithin self.new × (self.new.left < self.old.left) }
+    {
+        self.count(rt, compared);
+        read_on(rt, self, path, bytes, words);
+    }
 }
 
 // The list is over: there is no more to read.
-fn over(rt: &impl Print, mut p: Progress) -> Progress
-    requires { ProgressWithin p }
-    ensures { ProgressWithin result × (result.left ≡ 0) }
+fn over(rt: &impl Print, p: &mut Progress)
+    requires { ProgressWithin p.old }
+    ensures { ProgressWithin p.new × (p.new.left ≡ 0) }
 {
     progress::end(rt, p.file.take(), p.counts);
     p.left = 0;
-    p
 }
 
-// The next byte is looked for in the buffer's first `end` places.
-fn filled(mut p: Progress, end: usize) -> Progress
-    requires { ProgressWithin p × (end ≤ 4096) }
-    ensures { ProgressWithin result × (result.left ≡ p.left) }
+fn take_byte(rt: &impl Print, p: &mut Progress, byte: u8, words: &mut Words)
+    requires { ProgressWithin p.old }
+    ensures { ProgressWithin p.new × (p.new.left ≡ p.old.left) }
 {
-    p.at = 0;
-    p.end = end;
-    p
-}
-
-// A line goes on, or one that is no record ended.
-fn go_on(mut p: Progress, reader: Reader, byte: u8) -> Progress
-    requires { ProgressWithin p × (reader.count ≤ 1024) }
-    ensures { ProgressWithin result × (result.left ≡ p.left) }
-{
-    let line = if byte == b'\n' {
-        progress::one_more(p.line)
-    } else {
-        p.line
-    };
-    p.reader = reader;
-    p.line = line;
-    p
-}
-
-// A line ended that was to be a record, of `found` words; 0 says that it is bad.
-fn line_ended(mut p: Progress, found: usize) -> Progress
-    requires { ProgressWithin p × (found ≤ 1024) }
-    ensures { ProgressWithin result × (result.left ≡ p.left) }
-{
-    let reader = start();
-    p.reader = reader;
-    p.found = found;
-    p
-}
-
-fn take_byte(rt: &impl Print, p: Progress, byte: u8, words: &mut Words) -> Progress
-    requires { ProgressWithin p }
-    ensures { ProgressWithin result × (result.left ≡ p.left) }
-{
-    let before = p.reader;
-    let fed = feed(before, byte, words);
-    match fed {
-        Fed::More(reader) => go_on(p, reader, byte),
-        Fed::Record(n) => line_ended(p, n),
-        Fed::Bad => progress::count(rt, line_ended(p, 0), Compared::Bad),
+    match feed(p.reader, byte, words) {
+        Fed::More(reader) => p.go_on(reader, byte),
+        Fed::Record(n) => p.line_ended(n),
+        Fed::Bad => {
+            p.line_ended(0);
+            p.count(rt, Compared::Bad);
+        }
     }
 }
 
@@ -135,71 +94,69 @@ fn take_byte(rt: &impl Print, p: Progress, byte: u8, words: &mut Words) -> Progr
 // line ends too, and where that is a record, the next read ends the list.
 fn fill(
     rt: &(impl Print + Eprint),
-    mut p: Progress,
+    p: &mut Progress,
     path: &[u8],
     bytes: &mut Bytes,
     words: &mut Words,
-) -> Progress
-    requires { ProgressWithin p }
-    ensures { ProgressWithin result × (result.left ≤ p.left) }
+)
+    requires { ProgressWithin p.old }
+    ensures { ProgressWithin p.new × (p.new.left ≤ p.old.left) }
 {
     let Some(file) = &mut p.file else {
         fail(rt, path, "not open");
-        return over(rt, progress::count(rt, p, Compared::Bad));
+        p.count(rt, Compared::Bad);
+        return over(rt, p);
     };
     match file.read(bytes) {
         Err(error) => {
             fail(rt, path, error);
-            over(rt, progress::count(rt, p, Compared::Bad))
+            p.count(rt, Compared::Bad);
+            over(rt, p);
         }
         Ok(0) => {
-            let last = take_byte(rt, p, b'\n', words);
-            if last.found == 0 {
-                over(rt, last)
-            } else {
-                last
+            take_byte(rt, p, b'\n', words);
+            if p.found == 0 {
+                over(rt, p);
             }
         }
-        Ok(got) => filled(p, got),
+        Ok(got) => p.filled(got),
     }
 }
 
 // One byte, or one read where the buffer is used up.
 fn turn(
     rt: &(impl Print + Eprint),
-    mut p: Progress,
+    p: &mut Progress,
     path: &[u8],
     bytes: &mut Bytes,
     words: &mut Words,
-) -> Progress
-    requires { ProgressWithin p × (0 < p.left) }
-    ensures { ProgressWithin result × (result.left < p.left) }
+)
+    requires { ProgressWithin p.old × (0 < p.old.left) }
+    ensures { ProgressWithin p.new × (p.new.left < p.old.left) }
 {
-    p.left = p.left - 1;
+    p.left -= 1;
     let at = p.at;
     if at < p.end {
-        p.at = at + 1;
-        take_byte(rt, p, bytes[at], words)
+        p.at += 1;
+        take_byte(rt, p, bytes[at], words);
     } else {
-        fill(rt, p, path, bytes, words)
+        fill(rt, p, path, bytes, words);
     }
 }
 
 // Reads on until a record is whole, which is then found, or the list is over. A bad line is counted on the way.
 fn read_on(
     rt: &(impl Print + Eprint),
-    from: Progress,
+    p: &mut Progress,
     path: &[u8],
     bytes: &mut Bytes,
     words: &mut Words,
-) -> Progress
-    requires { ProgressWithin from × (0 < from.left) }
-    ensures { ProgressWithin result × (result.left < from.left) }
+)
+    requires { ProgressWithin p.old × (0 < p.old.left) }
+    ensures { ProgressWithin p.new × (p.new.left < p.old.left) }
 {
-    let mut p = turn(rt, from, path, bytes, words);
+    turn(rt, p, path, bytes, words);
     while p.found == 0 && p.left > 0 {
-        let later = turn(rt, p, path, bytes, words);
-        p = later;
+        turn(rt, p, path, bytes, words);
     }
-    p
 }

@@ -38,7 +38,7 @@ pub fn part_at(words: &Words, at: usize) -> Part
     }
     Part {
         at: at + 1,
-        count: count,
+        count,
         next: at + 1 + count,
     }
 }
@@ -49,8 +49,8 @@ pub fn part_of(at: usize, count: usize) -> Part
     ensures { Within result }
 {
     Part {
-        at: at,
-        count: count,
+        at,
+        count,
         next: at + count,
     }
 }
@@ -61,15 +61,14 @@ pub fn penalty_at(words: &Words, at: usize) -> Penalty
 {
     let alpha = double(words[at + 1]);
     let second = double(words[at + 2]);
-    let kind = words[at];
-    match kind {
-        0 => Penalty::L1 { alpha: alpha },
+    match words[at] {
+        0 => Penalty::L1 { alpha },
         1 => Penalty::L1PlusL2 {
-            alpha: alpha,
+            alpha,
             l1_ratio: second,
         },
         _ => Penalty::MCP {
-            alpha: alpha,
+            alpha,
             gamma: second,
         },
     }
@@ -79,16 +78,9 @@ pub fn penalty_at(words: &Words, at: usize) -> Penalty
 pub fn all_narrow(words: &Words, p: Part) -> bool
     requires { Within p }
 {
-    let at = p.at;
-    let count = p.count;
-    let mut i: usize = 0;
-    while i < count {
-        if 0xffff_ffff < words[at + i] {
-            return false;
-        }
-        i += 1;
-    }
-    true
+    words[p.at..p.at + p.count]
+        .iter()
+        .all(|word| *word <= 0xffff_ffff)
 }
 
 fn narrow(word: u64) -> u32 {
@@ -100,13 +92,9 @@ pub fn indices_of(words: &Words, p: Part) -> Indices
     requires { Within p }
     ensures { (p.count ≤ length result) × (p.count ≡ length (take p.count result)) }
 {
-    let at = p.at;
-    let count = p.count;
     let mut r = [0u32; 1024];
-    let mut i: usize = 0;
-    while i < count {
-        r[i] = narrow(words[at + i]);
-        i += 1;
+    for i in 0..p.count {
+        r[i] = narrow(words[p.at + i]);
     }
     r
 }
@@ -116,13 +104,9 @@ pub fn doubles_of(words: &Words, p: Part) -> Doubles
     requires { Within p }
     ensures { (p.count ≤ length result) × (p.count ≡ length (take p.count result)) }
 {
-    let at = p.at;
-    let count = p.count;
     let mut r = [0.0; 1024];
-    let mut i: usize = 0;
-    while i < count {
-        r[i] = double(words[at + i]);
-        i += 1;
+    for i in 0..p.count {
+        r[i] = double(words[p.at + i]);
     }
     r
 }
@@ -131,14 +115,9 @@ pub fn doubles_of(words: &Words, p: Part) -> Doubles
 pub fn same_doubles(buffer: &Doubles, words: &Words, p: Part) -> bool
     requires { Within p }
 {
-    let at = p.at;
-    let count = p.count;
-    let mut i: usize = 0;
-    while i < count {
-        if !same(buffer[i], double(words[at + i])) {
-            return false;
-        }
-        i += 1;
-    }
-    true
+    let part = &words[p.at..p.at + p.count];
+    buffer
+        .iter()
+        .zip(part)
+        .all(|(x, word)| same(*x, double(*word)))
 }

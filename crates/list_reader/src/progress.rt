@@ -1,5 +1,5 @@
 // How far a replay of a list has come, and what it prints. A program adds only how it replays a record.
-ghost use Rattle.std.specs.Prelude.{◌≡◌, ◌<◌};
+ghost use Rattle.std.specs.Prelude.{◌≡◌, ◌<◌, ◌≤◌};
 ghost use Rattle.list_reader.specs.ProgressWithin.{ProgressWithin};
 
 use crate::{Reader, start};
@@ -53,7 +53,7 @@ pub fn begin(file: Option<File>) -> Progress
     ensures { ProgressWithin result × (0 < result.left) }
 {
     Progress {
-        file: file,
+        file,
         left: u64::MAX,
         at: 0,
         end: 0,
@@ -84,52 +84,78 @@ fn name_wrong(rt: &impl Print, p: &Progress, what: &str) {
     }
 }
 
-// One more record, of which `wrong` are wrong: 1 or 0.
-fn add_record(mut p: Progress, wrong: u64) -> Progress
-    requires { ProgressWithin p }
-    ensures { ProgressWithin result × (result.left ≡ p.left) }
-{
-    let line = one_more(p.line);
-    let counts = Tally {
-        cases: one_more(p.counts.cases),
-        differ: std::num::wrapping_add_u64(p.counts.differ, wrong),
-    };
-    p.line = line;
-    p.counts = counts;
-    p.found = 0;
-    p
-}
+impl Progress {
+    // One more record, of which `wrong` are wrong: 1 or 0.
+    fn add_record(&mut self, wrong: u64)
+        requires { ProgressWithin self.old }
+        ensures { ProgressWithin self.new × (self.new.left ≡ self.old.left) }
+    {
+        self.line = one_more(self.line);
+        self.counts = Tally {
+            cases: one_more(self.counts.cases),
+            differ: std::num::wrapping_add_u64(self.counts.differ, wrong),
+        };
+        self.found = 0;
+    }
 
-// A line ended that was to be a record.
-pub fn count(rt: &impl Print, p: Progress, compared: Compared) -> Progress
-    requires { ProgressWithin p }
-    ensures { ProgressWithin result × (result.left ≡ p.left) }
-{
-    match compared {
-        Compared::Same => add_record(p, 0),
-        Compared::Differs => {
-            name_wrong(rt, &p, " differs\n");
-            add_record(p, 1)
+    // A line ended that was to be a record.
+    pub fn count(&mut self, rt: &impl Print, compared: Compared)
+        requires { ProgressWithin self.old }
+        ensures { ProgressWithin self.new × (self.new.left ≡ self.old.left) }
+    {
+        match compared {
+            Compared::Same => self.add_record(0),
+            Compared::Differs => {
+                name_wrong(rt, self, " differs\n");
+                self.add_record(1);
+            }
+            Compared::Bad => {
+                name_wrong(rt, self, " bad\n");
+                self.add_record(1);
+            }
         }
-        Compared::Bad => {
-            name_wrong(rt, &p, " bad\n");
-            add_record(p, 1)
+    }
+
+    // The next byte is looked for in the buffer's first `end` places.
+    pub fn filled(&mut self, end: usize)
+        requires { ProgressWithin self.old × (end ≤ 4096) }
+        ensures { ProgressWithin self.new × (self.new.left ≡ self.old.left) }
+    {
+        self.at = 0;
+        self.end = end;
+    }
+
+    // A line goes on, or one that is no record ended.
+    pub fn go_on(&mut self, reader: Reader, byte: u8)
+        requires { ProgressWithin self.old × (reader.count ≤ 1024) }
+        ensures { ProgressWithin self.new × (self.new.left ≡ self.old.left) }
+    {
+        if byte == b'\n' {
+            self.line = one_more(self.line);
         }
+        self.reader = reader;
+    }
+
+    // A line ended that was to be a record, of `found` words; 0 says that it is bad.
+    pub fn line_ended(&mut self, found: usize)
+        requires { ProgressWithin self.old × (found ≤ 1024) }
+        ensures { ProgressWithin self.new × (self.new.left ≡ self.old.left) }
+    {
+        self.reader = start();
+        self.found = found;
     }
 }
 
 // The last line: how many records there were, and how many of them differ or are bad.
 fn print_counts(rt: &impl Print, c: Tally) {
-    let cases = c.cases;
-    let differ = c.differ;
+    let Tally { cases, differ } = c;
     let _ = println!(rt; "{cases} cases, {differ} differ");
 }
 
 // The list is over: it is closed and the counts are printed. Of a list that did not open there is nothing to say.
 pub fn end(rt: &impl Print, file: Option<File>, counts: Tally) {
-    if file.is_none() {
-        return;
+    if let Some(file) = file {
+        drop(file);
+        print_counts(rt, counts);
     }
-    drop(file);
-    print_counts(rt, counts);
 }

@@ -11,10 +11,7 @@ use doubles::Refusal;
 pub fn sizes_fit(w: &[f64], entries: &[f64]) -> bool
     ensures { result ≡ ◌and◌ (leb (length w.now) 32) (leb (length entries.now) 256) }
 {
-    if 32 < w.len() {
-        return false;
-    }
-    entries.len() <= 256
+    w.len() <= 32 && entries.len() <= 256
 }
 
 // ---- texts and numbers
@@ -23,12 +20,9 @@ fn put_text(text: &[u8], out: &mut [u8], at: usize) -> usize
     requires { Room out.old at text.now }
     ensures { Wrote out.old out.new at result text.now }
 {
-    let mut k = 0;
-    while k < text.len() {
-        out[at + k] = text[k];
-        k += 1;
-    }
-    at + k
+    let end = at + text.len();
+    out[at..end].copy_from_slice(text);
+    end
 }
 
 // In decimal; 20 digits hold a u64.
@@ -45,10 +39,10 @@ fn put_decimal(n: usize, out: &mut [u8], at: usize) -> usize
 fn bits_of(x: f64) -> u64
     ensures { result ≡ lines.bits_of x }
 {
-    if x != x {
+    if x.is_nan() {
         0x7ff8_0000_0000_0000
     } else {
-        f64::to_bits(x)
+        x.to_bits()
     }
 }
 
@@ -113,10 +107,8 @@ fn put_entry_lines(name: &[u8], xs: &[f64], out: &mut [u8], at: usize) -> usize
     ensures { Wrote out.old out.new at result (lines.entry_lines name.now xs.now (length xs.now)) }
 {
     let mut here = at;
-    let mut i = 0;
-    while i < xs.len() {
-        here = put_entry_line(name, i, xs[i], out, here);
-        i += 1;
+    for (i, x) in xs.iter().enumerate() {
+        here = put_entry_line(name, i, *x, out, here);
     }
     here
 }

@@ -21,10 +21,7 @@ pub enum Written {
 fn refused(number: u32, place: usize) -> Written
     ensures { calls.written_of result ≡ refused' number place }
 {
-    Written::Refused(Refusal {
-        number: number,
-        place: place,
-    })
+    Written::Refused(Refusal { number, place })
 }
 
 // Writes the listing of a fit with these weights and fit entries to the first bytes of `out`. 8,192 bytes hold the largest.
@@ -33,10 +30,10 @@ pub fn write_listing(fit: Fit, w: &[f64], entries: &[f64], out: &mut [u8]) -> Wr
         × (out.new ≡ calls.write_left (fit_of fit) w.now entries.now out.old)
         × calls.Short (calls.written_of result) (length out.old) }
 {
-    if inner::sizes_fit(w, entries) {} else {
+    if !inner::sizes_fit(w, entries) {
         return refused(1, 0);
     }
-    if 8192 <= out.len() {} else {
+    if out.len() < 8192 {
         return refused(3, 0);
     }
     match fit {

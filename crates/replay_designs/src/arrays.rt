@@ -35,17 +35,11 @@ fn part_if(is_there: bool, words: &Words, at: usize) -> Part
 
 // Which codes have which arrays: all but 14 have a first one.
 fn has_second(code: u64) -> bool {
-    match code {
-        0x11 | 0x12 | 0x13 | 0x15 => true,
-        _ => false,
-    }
+    matches!(code, 0x11 | 0x12 | 0x13 | 0x15)
 }
 
 fn has_lent(code: u64) -> bool {
-    match code {
-        0x10 | 0x12 | 0x14 | 0x15 | 0x16 => true,
-        _ => false,
-    }
+    matches!(code, 0x10 | 0x12 | 0x14 | 0x15 | 0x16)
 }
 
 // Where the arrays begin: behind the code, and behind a design's layout, n and p.
@@ -67,11 +61,11 @@ pub fn arrays_of(words: &Words, code: u64) -> Arrays
     let second = part_if(has_second(code), words, first.next);
     let lent = part_if(has_lent(code), words, second.next);
     Arrays {
-        starts: starts,
-        rows: rows,
-        values: values,
-        first: first,
-        second: second,
-        lent: lent,
+        starts,
+        rows,
+        values,
+        first,
+        second,
+        lent,
     }
 }

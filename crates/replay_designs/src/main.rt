@@ -14,7 +14,7 @@ fn main(rt: HostRuntime) -> io::Result<()> {
     let mut p = list::open(&rt, path.as_bytes(), &mut bytes, &mut words);
     while p.left > 0 {
         let compared = record::replay(&words, p.found);
-        p = list::next(&rt, p, compared, path.as_bytes(), &mut bytes, &mut words);
+        p.next(&rt, compared, path.as_bytes(), &mut bytes, &mut words);
     }
     Ok(())
 }

@@ -89,19 +89,9 @@ pub fn replay(words: &Words, n: usize) -> Compared
 fn indices_fit(words: &Words, code: u64, arrays: Arrays) -> bool
     requires { AllWithin arrays }
 {
-    let starts = arrays.starts;
-    let rows = arrays.rows;
-    let first = arrays.first;
-    if !all_narrow(words, starts) {
-        return false;
-    }
-    if !all_narrow(words, rows) {
-        return false;
-    }
-    if code == 0x15 {
-        return all_narrow(words, first);
-    }
-    true
+    all_narrow(words, arrays.starts)
+        && all_narrow(words, arrays.rows)
+        && (code != 0x15 || all_narrow(words, arrays.first))
 }
 
 // The feature and the difference stand from word `at` on.
@@ -125,7 +115,7 @@ fn call_of(words: &Words, code: u64, at: usize) -> Call
     };
     Call {
         code: code,
-        shape: shape,
+        shape,
         diff: double(words[at]),
         j: j as usize,
     }
@@ -145,7 +135,7 @@ fn answers_of(words: &Words, n: usize, code: u64, at: usize, count: usize) -> An
     Answers {
         number: words[at],
         place: words[at + 1],
-        answer: answer,
+        answer,
         lent: part_of(lent_at, count),
     }
 }
@@ -155,25 +145,14 @@ fn agrees(words: &Words, call: Call, arrays: Arrays, answers: Answers) -> bool
     requires { AllWithin arrays × Within answers.lent }
 {
     let port = port_answer(words, call, arrays);
-    let answer = port.answer;
-    let lent = port.lent;
-    if same_number(answer, answers.number, answers.place, answers.answer) {
-        same_doubles(&lent, words, answers.lent)
-    } else {
-        false
-    }
+    same_number(port.answer, answers.number, answers.place, answers.answer)
+        && same_doubles(&port.lent, words, answers.lent)
 }
 
 // Asks the port, with the record's arrays lent.
 fn port_answer(words: &Words, call: Call, arrays: Arrays) -> PortAnswer
     requires { AllWithin arrays }
 {
-    let starts_count = arrays.starts.count;
-    let rows_count = arrays.rows.count;
-    let values_count = arrays.values.count;
-    let first_count = arrays.first.count;
-    let second_count = arrays.second.count;
-    let lent_count = arrays.lent.count;
     let starts = indices_of(words, arrays.starts);
     let rows = indices_of(words, arrays.rows);
     let values = doubles_of(words, arrays.values);
@@ -183,18 +162,15 @@ fn port_answer(words: &Words, call: Call, arrays: Arrays) -> PortAnswer
     let mut lent = doubles_of(words, arrays.lent);
     let answer = ask(
         call,
-        &starts[..starts_count],
-        &rows[..rows_count],
-        &values[..values_count],
-        &first[..first_count],
-        &features[..first_count],
-        &second[..second_count],
-        &mut lent[..lent_count],
+        &starts[..arrays.starts.count],
+        &rows[..arrays.rows.count],
+        &values[..arrays.values.count],
+        &first[..arrays.first.count],
+        &features[..arrays.first.count],
+        &second[..arrays.second.count],
+        &mut lent[..arrays.lent.count],
     );
-    PortAnswer {
-        answer: answer,
-        lent: lent,
-    }
+    PortAnswer { answer, lent }
 }
 
 // The code's call. `features` is the first array as indices, which code 15 alone has.
@@ -210,8 +186,7 @@ fn ask(
 ) -> Number {
     let shape = call.shape;
     let j = Feature(call.j);
-    let code = call.code;
-    match code {
+    match call.code {
         0x10 => number(datafits::initialize(shape, starts, rows, values, first, lent)),
         0x11 => datafits::gradient_j(shape, starts, rows, values, first, second, j),
         0x12 => number(datafits::full_grad(shape, starts, rows, values, first, second, lent)),
@@ -243,8 +218,7 @@ fn alpha_max(
     y: &[f64],
     xty: &mut [f64],
 ) -> Number {
-    let layout = shape.layout;
-    match layout {
+    match shape.layout {
         Layout::Dense => {
             if 0 < starts.len() || 0 < rows.len() {
                 return Number::Refused(Refusal {

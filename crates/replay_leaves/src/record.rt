@@ -12,8 +12,7 @@ use list_reader::{Words, same};
 use penalties::inner;
 
 pub fn replay(words: &Words, n: usize) -> Compared {
-    let code = words[0];
-    match code {
+    match words[0] {
         5 => solve(words, n),
         6 => inner_violation(words, n),
         7 => inner_value(words, n),
@@ -37,10 +36,8 @@ fn weights(words: &Words, count: usize) -> [f64; 64]
     ensures { (64 ≡ length result) × (count ≡ length (take count result)) }
 {
     let mut w = [0.0; 64];
-    let mut i: usize = 0;
-    while i < count {
+    for i in 0..count {
         w[i] = double(words[i + 5]);
-        i += 1;
     }
     w
 }
@@ -65,10 +62,8 @@ fn row(words: &Words, at: usize, count: usize) -> [f64; 11]
     requires { (count ≤ 11) × (at + count ≤ 1024) }
 {
     let mut r = [0.0 / 0.0; 11];
-    let mut k: usize = 0;
-    while k < count {
+    for k in 0..count {
         r[k] = double(words[at + k]);
-        k += 1;
     }
     r
 }
@@ -79,12 +74,9 @@ fn system(words: &Words, size: usize) -> [[f64; 11]; 10]
     let none = [0.0 / 0.0; 11];
     let mut m = [none; 10];
     let mut at: usize = 2;
-    let mut i: usize = 0;
-    while i < size {
-        let next = row(words, at, size + 1);
-        m[i] = next;
+    for i in 0..size {
+        m[i] = row(words, at, size + 1);
         at += size + 1;
-        i += 1;
     }
     m
 }
@@ -92,14 +84,9 @@ fn system(words: &Words, size: usize) -> [[f64; 11]; 10]
 fn same_places(z: [f64; 10], words: &Words, at: usize) -> bool
     requires { at + 10 ≤ 1024 }
 {
-    let mut i: usize = 0;
-    while i < 10 {
-        if !same(z[i], double(words[at + i])) {
-            return false;
-        }
-        i += 1;
-    }
-    true
+    z.iter()
+        .zip(&words[at..at + 10])
+        .all(|(x, word)| same(*x, double(*word)))
 }
 
 // The answers from word `at` on: number, place, singular and the ten places.
@@ -109,14 +96,12 @@ fn same_solution(s: Solution, words: &Words, at: usize) -> bool
     let number = words[at];
     let place = words[at + 1];
     let singular = words[at + 2];
-    let ending = s.ending;
-    let ended = match ending {
+    let ended = match s.ending {
         Ending::Refused(f) => same_refusal(f, number, place) && singular == 0,
         Ending::Singular => number == 0 && place == 0 && singular == 1,
         Ending::Solved => number == 0 && place == 0 && singular == 0,
     };
-    let z = s.z;
-    ended && same_places(z, words, at + 3)
+    ended && same_places(s.z, words, at + 3)
 }
 
 // How many rows a record has. A size outside 1 to 10 comes with none.

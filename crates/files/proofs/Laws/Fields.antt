@@ -1,11 +1,11 @@
 -- What the tests of one field say. Assumes nothing.
 use mathlib.Core.Path.{◌≡◌, sym, ◌∙◌}
-use mathlib.Core.Bool.{Bool, true, false}
+use mathlib.Core.Bool.{true}
 use mathlib.Core.Logic.{◌⊎◌, inl, inr}
-use Prim.Native.Nat.{ℕ, ◌+◌, ◌≤◌, ◌<◌}
+use Prim.Native.Nat.{ℕ, ◌+◌, ◌≤◌}
 use native.Mathlib.Omega.{arith}
 use mathlib.Core.List.{List}
-use lib.Dec.{leb, eqb}
+use lib.Dec.{eqb}
 use lib.ListN.{length}
 use borrow.Author.Tests.{leb-true, eq-eqb, ne_eqb}
 use Rattle.doubles.specs.Num.{pick}
@@ -13,7 +13,7 @@ use Rattle.doubles.proofs.Laws.Choice.{and_both}
 use Rattle.designs.specs.declared.Layout.{Layout}
 use Rattle.designs.specs.declared.Layout.TheVariants.{Dense, Csc}
 use Rattle.files.specs.Bytes.{u16}
-use Rattle.files.specs.Problem.{length_at, whole, element_size}
+use Rattle.files.specs.Problem.{length_at, whole}
 
 -- a field that is not cut ends within the file
 module _ (f : List ℕ) (o : ℕ) (h : whole f o ≡ true) where
@@ -31,19 +31,8 @@ module _ (f : List ℕ) (o : ℕ) (h : whole f o ≡ true) where
 pub header-long : (f : List ℕ) (m : ℕ) → whole f 0 ≡ true → m ≡ u16 f 1 → m ≡ 48 → 51 ≤ length f
 header-long f m h e q = let b : 0 + 3 + length_at f 0 ≤ length f = body_inside f 0 h in let z : u16 f 1 ≡ 48 = sym e ∙ q in omega arith
 
-pub size-positive : (t n : ℕ) → n ≡ element_size t → 0 < n
-size-positive t n e = go (leb t 3) e
-  where
-    go : (b : Bool) → n ≡ pick b 8 4 → 0 < n
-    go true q = omega arith
-    go false q = omega arith
-
 -- the layout by the branch that was taken
 pub layout_by : {P Q : Type 0} (b : ℕ) (g : Layout) → ((t : P) × (g ≡ Csc)) ⊎ ((t : Q) × (g ≡ Dense)) → (P → b ≡ 1) → (Q → b ≡ 1 → ⊥)
     → g ≡ pick (eqb b 1) Csc Dense
 layout_by b g (inl t) p q = rw (eq-eqb b 1 (p t.0)) t.1
 layout_by b g (inr t) p q = rw (ne_eqb b 1 (q t.0)) t.1
-
--- ---- places
-pub none_before : (e : ℕ) → e ≡ 0 → e ≤ 0
-none_before e h = omega arith

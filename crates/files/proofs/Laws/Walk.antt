@@ -17,7 +17,7 @@ use Rattle.doubles.proofs.Laws.Buffer.{length-put, put-behind}
 use Rattle.files.specs.Bytes.{u32, f64, doubles, indices}
 use Rattle.files.specs.Problem.{Read, nothing_read, tag_at, length_at, whole, stored, good_header, good_field, good_at, good, joined, next_read, read_on}
 use Rattle.files.specs.Problem.{read_all}
-use Rattle.files.specs.Inner.Places.{Header, Headed, Counted, grown_by, advanced, Space, Suffice, stored_in, indexed_in, kept_if}
+use Rattle.files.specs.Inner.Places.{Header, Counted, grown_by, advanced, Space, Suffice, stored_in, indexed_in, kept_if}
 use Rattle.files.specs.declared.Cursor.{Cursor}
 use Rattle.files.proofs.Laws.Fields.{head_inside, body_inside, header-long}
 
@@ -173,11 +173,10 @@ kept-length true l xs m e h = let q = h refl in ap length e ∙ length-put l 0 x
 kept-length false l xs m e h = ap length e
 
 -- ---- the loop's invariant: `so_far` was read, and the rest leads to the whole
-pub record Walked (f : List ℕ) (keep : Bool) (t₀ v₀ : List Float) (s₀ r₀ : List ℕ) (t v : List Float) (s r : List ℕ) (c : Cursor) (more : Bool) : Type 0 where
+pub record Walked (f : List ℕ) (keep : Bool) (t₀ v₀ : List Float) (s₀ r₀ : List ℕ) (t v : List Float) (s r : List ℕ) (c : Cursor) : Type 0 where
   pub so_far : Read
   pub rest : read_all f ≡ read_on f (length f) so_far
   pub counts : Counted f c so_far
-  pub goes_on : more ≡ good f so_far
   pub targets : t ≡ kept_if keep t₀ so_far.targets
   pub values : v ≡ kept_if keep v₀ so_far.values
   pub starts : s ≡ kept_if keep s₀ so_far.starts
@@ -201,21 +200,19 @@ module _ (f : List ℕ) (keep : Bool) (t₀ v₀ : List Float) (s₀ r₀ : List
     headed = λ n. absurd (n refl);
   }
 
-  pub walked_none : (b : Bool) → b ≡ good_at f 0 0 0
-      → Walked f keep t₀ v₀ s₀ r₀ t₀ v₀ s₀ r₀ (record { at = 0; tag = 0; targets = 0; values = 0; starts = 0; rows = 0 }) b
+  pub walked_none : Walked f keep t₀ v₀ s₀ r₀ t₀ v₀ s₀ r₀ (record { at = 0; tag = 0; targets = 0; values = 0; starts = 0; rows = 0 })
   unfolding read_all
-  walked_none b e = record {
+  walked_none = record {
     so_far = nothing_read;
     rest = refl;
     counts = counts-none;
-    goes_on = good-by f _ nothing_read counts-none b e;
     targets = put-nothing keep t₀;
     values = put-nothing keep v₀;
     starts = put-nothing keep s₀;
     rows = put-nothing keep r₀;
   }
 
-  module _ {t v : List Float} {s r : List ℕ} {c : Cursor} {more : Bool} (W : Walked f keep t₀ v₀ s₀ r₀ t v s r c more) where
+  module _ {t v : List Float} {s r : List ℕ} {c : Cursor} (W : Walked f keep t₀ v₀ s₀ r₀ t v s r c) where
     few : (n : ℕ) → 8 * n ≤ c.at → n ≤ 6144
     few n h = let w = W.counts.within in omega arith
 
@@ -241,9 +238,13 @@ module _ (f : List ℕ) (keep : Bool) (t₀ v₀ : List Float) (s₀ r₀ : List
           kept-length keep r₀ W.so_far.rows r W.rows (λ k. let a = (room k).rows in let b = n.3 in let e = C.rows in omega arith),
         )
 
-    module _ (h : more ≡ true) where
+    -- what the test of the next field says of what was read so far
+    goes-on : (more : Bool) → more ≡ good_at f c.at c.tag c.values → more ≡ good f W.so_far
+    goes-on more e = good-by f c W.so_far W.counts more e
+
+    module _ {more : Bool} (e : more ≡ good_at f c.at c.tag c.values) (h : more ≡ true) where
       here_good : good f W.so_far ≡ true
-      here_good = sym W.goes_on ∙ h
+      here_good = sym (goes-on more e) ∙ h
 
       pub here_whole : whole f c.at ≡ true
       here_whole = rw W.counts.at (good-whole f W.so_far here_good)
@@ -254,9 +255,6 @@ module _ (f : List ℕ) (keep : Bool) (t₀ v₀ : List Float) (s₀ r₀ : List
 
       pub space_now : keep ≡ true → Space f c (length t) (length v) (length s) (length r)
       space_now k = let e = walked-lengths in rw (e.0, e.1, e.2, e.3) (here_space k)
-
-      pub next-within : (d : Cursor) → d ≡ advanced f c → (d.at ≤ length f) × (d.values ≤ 4096) × Headed f d.at
-      next-within d e = let C = counts-next f c W.so_far W.counts here_good in rw e (C.within, C.few-values, C.headed)
 
       pub next_less : (d : Cursor) → d ≡ advanced f c → length f - d.at < length f - c.at
       unfolding advanced
@@ -270,13 +268,13 @@ module _ (f : List ℕ) (keep : Bool) (t₀ v₀ : List Float) (s₀ r₀ : List
           → pick keep (pick (eqb (tag_at f c.at) u) (put b n ys) b) b ≡ kept_if keep b₀ (joined (tag_at f c.at) u xs ys)
       gains u b₀ xs ys b n eb en h = kept_more keep (eqb (tag_at f c.at) u) b₀ xs ys b n eb en h
 
-      pub walked_more : (t' v' : List Float) (s' r' : List ℕ) (d : Cursor) (b : Bool)
+      pub walked_more : (t' v' : List Float) (s' r' : List ℕ) (d : Cursor)
           → t' ≡ stored_in keep f c.at 2 t c.targets → v' ≡ stored_in keep f c.at 3 v c.values
           → s' ≡ indexed_in keep f c.at 4 s c.starts → r' ≡ indexed_in keep f c.at 5 r c.rows
-          → d ≡ advanced f c → b ≡ good_at f d.at d.tag d.values
-          → Walked f keep t₀ v₀ s₀ r₀ t' v' s' r' d b
+          → d ≡ advanced f c
+          → Walked f keep t₀ v₀ s₀ r₀ t' v' s' r' d
       unfolding next_read
-      walked_more t' v' s' r' d b et ev es er ed eb =
+      walked_more t' v' s' r' d et ev es er ed =
           let x = W.so_far in
           let C = W.counts in
           let m = length_at f c.at in
@@ -285,7 +283,6 @@ module _ (f : List ℕ) (keep : Bool) (t₀ v₀ : List Float) (s₀ r₀ : List
             so_far = next_read f x;
             rest = W.rest ∙ one_more f x ∙ rw here_good;
             counts = n;
-            goes_on = good-by f d (next_read f x) n b eb;
             targets =
                 et
                 ∙ gains 2 t₀ x.targets (doubles f (c.at + 3) (m / 8)) t c.targets W.targets C.targets
@@ -309,9 +306,9 @@ module _ (f : List ℕ) (keep : Bool) (t₀ v₀ : List Float) (s₀ r₀ : List
           }
 
     -- the file is read
-    pub walked_all : more ≡ false
+    pub walked_all : {more : Bool} → more ≡ good_at f c.at c.tag c.values → more ≡ false
         → Counted f c (read_all f) × (t ≡ kept_if keep t₀ (read_all f).targets) × (v ≡ kept_if keep v₀ (read_all f).values)
         × (s ≡ kept_if keep s₀ (read_all f).starts) × (r ≡ kept_if keep r₀ (read_all f).rows)
-    walked_all h =
-        let e : read_all f ≡ W.so_far = W.rest ∙ one_more f W.so_far ∙ rw (sym W.goes_on ∙ h) in
+    walked_all {more} q h =
+        let e : read_all f ≡ W.so_far = W.rest ∙ one_more f W.so_far ∙ rw (sym (goes-on more q) ∙ h) in
         rw e (W.counts, W.targets, W.values, W.starts, W.rows)

@@ -4,10 +4,10 @@ use Rattle.doubles.specs.Num.{◌and◌}
 use Rattle.files.specs.Problem.{whole}
 use Rattle.files.proofs.is_whole.Goals as goal
 
-pub returns-then-file-at : goal.returns-then-file-at
+pub returns-then-at-file : goal.returns-then-at-file
 unfolding whole ◌and◌
-returns-then-file-at c = rw (lt-leb _ _ c.if-file-at.true)
+returns-then-at-file c = rw (le-leb _ _ c.if-at-file.true, ← c.u16_at.ensures.0)
 
-pub returns : goal.returns
+pub returns-else-at-file : goal.returns-else-at-file
 unfolding whole ◌and◌
-returns c = rw (le-leb _ _ c.if-file-at.false, ← c.u16_at.ensures.0)
+returns-else-at-file c = rw (lt-leb _ _ c.if-at-file.false)

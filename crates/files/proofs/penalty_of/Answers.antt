@@ -1,18 +1,22 @@
 -- `penalty_of`: by the code. Assumes nothing.
+use Rattle.std.proofs.Common.{◌≢◌}
+use borrow.Author.Rules.{rules}
 use borrow.Author.Tests.{eq-eqb, ne_eqb}
+use Rattle.files.specs.Bytes.{byte}
 use Rattle.files.specs.Problem.{header_penalty}
 use Rattle.files.proofs.penalty_of.Goals as goal
 
-pub returns-then-file-eq0 : goal.returns-then-file-eq0
+pub returns-in-0 : goal.returns-in-0
 unfolding header_penalty
-returns-then-file-eq0 c = rw (eq-eqb _ _ c.if-file-eq0.true, ← c.f64_at-alpha.ensures)
+returns-in-0 c = rw (eq-eqb _ _ c.in-0.is, ← c.f64_at-alpha.ensures)
 
-pub returns-then-file-eq1 : goal.returns-then-file-eq1
+pub returns-in-1 : goal.returns-in-1
 unfolding header_penalty
-returns-then-file-eq1 c =
-    rw (ne_eqb _ _ c.if-file-eq0.false, eq-eqb _ _ c.if-file-eq1.true, ← c.f64_at-alpha.ensures, ← c.f64_at-second.ensures)
+returns-in-1 c = rw (c.in-1.is, ← c.f64_at-alpha.ensures, ← c.f64_at-second.ensures)
 
-pub returns : goal.returns
+pub returns-in_default : goal.returns-in_default
 unfolding header_penalty
-returns c =
-    rw (ne_eqb _ _ c.if-file-eq0.false, ne_eqb _ _ c.if-file-eq1.false, ← c.f64_at-alpha.ensures, ← c.f64_at-second.ensures)
+returns-in_default c =
+    let a : byte c.args.file.now 12 ≢ 0 = search rules in
+    let b : byte c.args.file.now 12 ≢ 1 = search rules in
+    rw (ne_eqb _ _ a, ne_eqb _ _ b, ← c.f64_at-alpha.ensures, ← c.f64_at-second.ensures)

@@ -12,7 +12,7 @@ use Rattle.files.proofs.Laws.Calls.{places_same, room_of, too_long, not-ended, s
 use Rattle.files.specs.Call.{places_suffice, places}
 use Rattle.files.specs.Inner.Places.{Header}
 use Rattle.files.proofs.read.Goals as goal
-use Rattle.files.proofs.read.Goals.{After-read_fields-c, After-read_fields-d, Then-has_ended}
+use Rattle.files.proofs.read.Goals.{After-read_fields-c, After-read_fields-d, Else-not-has_ended}
 
 -- the first pass leaves what was lent
 untouched : (c : After-read_fields-c) → let r = c.read_fields-c.new in let a = c.args in
@@ -20,11 +20,11 @@ untouched : (c : After-read_fields-c) → let r = c.read_fields-c.new in let a =
 untouched c = places_same c.read_fields-c.ensures.1 c.read_fields-c.ensures.2 c.read_fields-c.ensures.3 c.read_fields-c.ensures.4
 
 -- a file that ended has its header
-headed : (c : Then-has_ended) → Header c.args.file.now
+headed : (c : Else-not-has_ended) → Header c.args.file.now
 headed c =
     let a = c.args in
     let lent = places a.targets.now a.values.now a.starts.now a.rows.now in
-    some_read a.file.now lent (omega arith) _ c.read_fields-c.ensures.0 _ c.has_ended.ensures c.if-has_ended.true
+    some_read a.file.now lent (omega arith) _ c.read_fields-c.ensures.0 _ c.has_ended.ensures c.if-not-has_ended.false
 
 -- the second pass puts what was read into the first places of what was lent
 stored : (c : After-read_fields-d) → let r = c.read_fields-d.new in
@@ -52,36 +52,36 @@ returns-then-file-gt49152 c =
 pub read_fields-c-requires : goal.read_fields-c-requires
 read_fields-c-requires c = (omega arith, λ k. absurd (false≢true k))
 
-pub returns-else-has_ended : goal.returns-else-has_ended
-returns-else-has_ended c =
+pub returns-then-not-has_ended : goal.returns-then-not-has_ended
+returns-then-not-has_ended c =
     let a = c.args in
     let lent = places a.targets.now a.values.now a.starts.now a.rows.now in
-    let over = not-ended a.file.now lent (omega arith) _ c.read_fields-c.ensures.0 _ c.has_ended.ensures c.if-has_ended.false in
-    let e = over _ _ c.refused-else-has_ended.ensures.0 (untouched (goal.at.returns-else-has_ended c).After-read_fields-c) in
-    (e.0, e.1, c.refused-else-has_ended.ensures.1)
+    let over = not-ended a.file.now lent (omega arith) _ c.read_fields-c.ensures.0 _ c.has_ended.ensures c.if-not-has_ended.true in
+    let e = over _ _ c.refused-then-not-has_ended.ensures.0 (untouched (goal.at.returns-then-not-has_ended c).After-read_fields-c) in
+    (e.0, e.1, c.refused-then-not-has_ended.ensures.1)
 
-pub returns-else-has_room : goal.returns-else-has_room
-returns-else-has_room c =
+pub returns-then-not-has_room : goal.returns-then-not-has_room
+returns-then-not-has_room c =
     let a = c.args in
     let lent = places a.targets.now a.values.now a.starts.now a.rows.now in
-    let same = untouched (goal.at.returns-else-has_room c).After-read_fields-c in
+    let same = untouched (goal.at.returns-then-not-has_room c).After-read_fields-c in
     -- the test of the room is that of what was lent
     let room = c.has_room.ensures ∙ ap places_suffice same in
-    let over = no_room a.file.now lent (omega arith) _ c.read_fields-c.ensures.0 _ c.has_ended.ensures c.if-has_ended.true in
-    let e = over (sym room ∙ c.if-has_room.false) _ _ c.refused-else-has_room.ensures.0 same in
-    (e.0, e.1, c.refused-else-has_room.ensures.1)
+    let over = no_room a.file.now lent (omega arith) _ c.read_fields-c.ensures.0 _ c.has_ended.ensures c.if-not-has_ended.false in
+    let e = over (sym room ∙ c.if-not-has_room.true) _ _ c.refused-then-not-has_room.ensures.0 same in
+    (e.0, e.1, c.refused-then-not-has_room.ensures.1)
 
 pub read_fields-d-requires : goal.read_fields-d-requires
 read_fields-d-requires c =
-    (omega arith, λ k. room_of _ _ _ _ (sym c.has_room.ensures ∙ c.if-has_room.true))
+    (omega arith, λ k. room_of _ _ _ _ (sym c.has_room.ensures ∙ c.if-not-has_room.false))
 
-pub shape_of-shape-requires : goal.shape_of-shape-requires
-shape_of-shape-requires c =
-    ((headed (goal.at.shape_of-shape-requires c).Then-has_ended).long, omega arith)
+pub shape_of-requires : goal.shape_of-requires
+shape_of-requires c =
+    ((headed (goal.at.shape_of-requires c).Else-not-has_ended).long, omega arith)
 
-pub settings_of-settings-requires : goal.settings_of-settings-requires
-settings_of-settings-requires c =
-    ((headed (goal.at.settings_of-settings-requires c).Then-has_ended).long, omega arith)
+pub settings_of-requires : goal.settings_of-requires
+settings_of-requires c =
+    ((headed (goal.at.settings_of-requires c).Else-not-has_ended).long, omega arith)
 
 pub returns : goal.returns
 returns c =
@@ -90,8 +90,8 @@ returns c =
     let lent = places a.targets.now a.values.now a.starts.now a.rows.now in
     let room = c.has_room.ensures ∙ ap places_suffice (untouched here.After-read_fields-c) in
     let counts = c.read_fields-d.ensures.0 in
-    let sizes = sizes-read _ _ counts _ _ c.shape_of-shape.ensures c.settings_of-settings.ensures in
+    let sizes = sizes-read _ _ counts _ _ c.shape_of.ensures c.settings_of.ensures in
     let short : length a.file.now ≤ 49152 = omega arith in
-    let over = read_well _ lent short _ c.read_fields-c.ensures.0 _ c.has_ended.ensures c.if-has_ended.true (sym room ∙ c.if-has_room.true) in
+    let over = read_well _ lent short _ c.read_fields-c.ensures.0 _ c.has_ended.ensures c.if-not-has_ended.false (sym room ∙ c.if-not-has_room.false) in
     let e = over _ _ sizes (stored here.After-read_fields-d) in
-    (e.0, e.1, sizes-inside _ _ counts short (headed here.Then-has_ended) _ c.shape_of-shape.ensures)
+    (e.0, e.1, sizes-inside _ _ counts short (headed here.Else-not-has_ended) _ c.shape_of.ensures)

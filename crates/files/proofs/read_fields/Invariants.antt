@@ -4,9 +4,9 @@ use lib.ListN.{length}
 use Rattle.files.proofs.Laws.Walk.{Walked}
 use Rattle.files.proofs.read_fields.Given as goal
 
-abbrev pub invariant-loop-more : goal.invariant-loop-more
-invariant-loop-more l =
-    Walked l.file l.keep l.initial.targets l.initial.values l.initial.starts l.initial.rows l.targets l.values l.starts l.rows l.c l.more
+abbrev pub invariant-loop-targets : goal.invariant-loop-targets
+invariant-loop-targets l =
+    Walked l.file l.keep l.initial.targets l.initial.values l.initial.starts l.initial.rows l.targets l.values l.starts l.rows l.c
 
-abbrev pub decreases-loop-more : goal.decreases-loop-more
-decreases-loop-more l = length l.file - l.c.at
+abbrev pub decreases-loop-targets : goal.decreases-loop-targets
+decreases-loop-targets l = length l.file - l.c.at

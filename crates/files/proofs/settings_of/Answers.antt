@@ -10,7 +10,7 @@ pub returns : goal.returns
 unfolding header_settings
 returns c =
     rw (
-      ← c.penalty_of-penalty.ensures,
+      ← c.penalty_of.ensures,
       ← c.f64_at.ensures,
       ← c.u32_at.ensures.0,
       ← c.u32_at-2.ensures.0,

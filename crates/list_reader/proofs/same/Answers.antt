@@ -89,23 +89,26 @@ unfolding div eq of_bits
 alike (signed true) = refl
 alike (signed false) = refl
 
+pub returns-then-is_nan-clause-only : goal.returns-then-is_nan-clause-only
+returns-then-is_nan-clause-only c k = none _ (sym c.if-is_nan.ensures.value) ∙ sym (none _ (sym c.is_nan-then-is_nan.ensures.value ∙ k))
+
 pub returns-then-a-clause-only : goal.returns-then-a-clause-only
-returns-then-a-clause-only c k = none _ (sym (ne_self _) ∙ c.if-a.true) ∙ sym (none _ (sym (ne_self _) ∙ k))
-
-pub returns-then-a-2-clause-only : goal.returns-then-a-2-clause-only
-returns-then-a-2-clause-only c k =
+returns-then-a-clause-only c k =
     let g = c.well_formed in
-    numbers _ _ (holds g.0.1) (holds g.1.0.1) c.if-a-2.true (holds k)
+    numbers _ _ (holds g.0.1) (holds g.1.0.1) c.if-a.true (holds k)
 
-pub returns-then-a-2-clause-all : goal.returns-then-a-2-clause-all
-returns-then-a-2-clause-all c e = rw (← e) (not-false _ (unfold ne in c.if-a.false))
+pub returns-then-a-clause-all : goal.returns-then-a-clause-all
+returns-then-a-clause-all c e = rw (← e) (not-false _ (unfold ne in ne_self _ ∙ sym c.if-is_nan.ensures.value))
 
-pub returns-else-b-clause-only : goal.returns-else-b-clause-only
-returns-else-b-clause-only c k =
+pub returns-then-b-clause-only : goal.returns-then-b-clause-only
+returns-then-b-clause-only c k =
     let g = c.well_formed in
-    told (zero-form _ (holds g.0.1) c.if-a-2.false) (zero-form _ (holds g.1.0.1) c.if-b.false) (holds k)
+    told (zero-form _ (holds g.0.1) c.if-a.false) (zero-form _ (holds g.1.0.1) (unfold ne in rw c.if-b.true)) (holds k)
+
+pub returns-then-b-clause-all : goal.returns-then-b-clause-all
+returns-then-b-clause-all c e =
+    let x = zero-form _ (holds c.well_formed.0.1) c.if-a.false in
+    rw (← e) (alike x)
 
 pub returns-else-b-clause-all : goal.returns-else-b-clause-all
-returns-else-b-clause-all c e =
-    let x = zero-form _ (holds c.well_formed.0.1) c.if-a-2.false in
-    rw (← e) (alike x)
+returns-else-b-clause-all c e = rw (← e) (not-false _ (unfold ne in c.if-a.false))

@@ -1,27 +1,17 @@
 -- Texts written one behind the other: the room of each, and what they are together. Assumes nothing.
 use mathlib.Core.Path.{◌≡◌, refl, ap, ◌∙◌}
 use mathlib.Core.List.{List}
-use Prim.Native.Nat.{ℕ, ◌+◌, ◌≤◌, ◌<◌}
+use Prim.Native.Nat.{ℕ, ◌+◌, ◌-◌, ◌≤◌}
 use native.Mathlib.Omega.{arith}
-use native.Mathlib.Nat.{le_antisymm}
-use lib.ListN.{length, get_or, set, length-append}
-use Rattle.doubles.specs.Steps.{tab}
-use Rattle.doubles.specs.Buffer.{put}
-use Rattle.doubles.proofs.Laws.Buffer.{length-put, put-behind, put-more}
-use Rattle.doubles.proofs.Laws.Parts.{tab-get_or}
+use borrow.Rule.Slice.PartMut.{put_mid}
+use lib.ListN.{length, length-append}
+use Rattle.doubles.proofs.Laws.Buffer.{length-put, put-behind, put_back}
 use Rattle.listings.specs.Listing.{◌and_then◌}
 use Rattle.listings.specs.Inner.Wrote.{Room, Wrote}
 
--- a text written place by place: one place more, and once all are
-pub text_more : (l m : List ℕ) (a k : ℕ) (xs : List ℕ) → m ≡ put l a (tab (λ i. get_or xs i 0) k) → a + k < length l
-    → set m (a + k) (get_or xs k 0) ≡ put l a (tab (λ i. get_or xs i 0) (k + 1))
-text_more l m a k xs e h = rw e (put-more (λ i. get_or xs i 0) l a k 0 h (get_or xs k 0) refl)
-
-pub wrote_all : (l m : List ℕ) (a k : ℕ) (xs : List ℕ) → m ≡ put l a (tab (λ i. get_or xs i 0) k) → k ≤ length xs → length xs ≤ k
-    → a + length xs ≤ length l → Wrote l m a (a + k) xs
-wrote_all l m a k xs e p q h =
-    let n = le_antisymm p q in
-    record { bytes = e ∙ rw n (ap (put l a) (tab-get_or xs 0)); place = ap (λ (i : ℕ). a + i) n; room = record { fits = h } }
+-- a text copied to its part of the buffer
+pub wrote_text : (l t xs : List ℕ) (a : ℕ) → t ≡ xs → a + length xs ≤ length l → Wrote l (put_mid a (a + length xs - a) l t) a (a + length xs) xs
+wrote_text l t xs a e h = record { bytes = rw e (put_back l a (length xs) _ xs (omega arith) refl); place = refl; room = record { fits = h } }
 
 wrote_length : {l m xs : List ℕ} {a b : ℕ} → Wrote l m a b xs → length m ≡ length l
 wrote_length {l} {m} {xs} {a} {b} w = ap length w.bytes ∙ length-put l a xs w.room.fits

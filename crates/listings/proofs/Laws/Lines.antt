@@ -3,7 +3,7 @@ use mathlib.Core.Path.{◌≡◌, refl, ap, ◌∙◌}
 use mathlib.Core.List.{List, []}
 use Prim.Native.Nat.{ℕ, zero, suc, ◌+◌, ◌-◌, ◌*◌, ◌^◌, ◌≤◌, ◌<◌}
 use native.Mathlib.Numerals.{add-one}
-use native.Mathlib.Nat.{mul-suc, add-zero, le_refl, le_antisymm}
+use native.Mathlib.Nat.{mul-suc, add-zero, le_refl}
 use native.Mathlib.Omega.{arith}
 use lib.ListN.{length}
 use lib.Ieee.{Float}
@@ -48,9 +48,6 @@ module _ (name : List ℕ) (xs : List Float) where
 
       pub lines_turn : {r : List ℕ} {c : ℕ} → Wrote m r b c (entry_line name i (at xs i)) → Wrote l r a c (entry_lines name xs (i + 1))
       lines_turn v = rw (lines_more i) at (wrote_both w v)
-
-      pub lines_all : i ≤ n → n ≤ i → Wrote l m a b (entry_lines name xs n)
-      lines_all p q = rw (le_antisymm p q) at w
 
   -- ---- how long they are
   pub lines_length : (c n : ℕ) → ((i : ℕ) → i < n → length (entry_line name i (at xs i)) ≤ c) → length (entry_lines name xs n) ≤ c * n

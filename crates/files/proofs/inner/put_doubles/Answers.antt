@@ -1,17 +1,12 @@
 -- `put_doubles`: the invariant is the elements so far, put where they go. Assumes nothing.
 use lib.Ieee.{nan}
-use Rattle.doubles.proofs.Laws.Buffer.{put-none, put-more, put_all}
 use borrow.Author.Rules.{rules}
+use Rattle.doubles.proofs.Laws.Buffer.{put-none, put-more}
 use Rattle.files.proofs.inner.put_doubles.Goals as goal
 
 pub loop-i-init : goal.loop-i-init
-loop-i-init c = (search rules, search rules, put-none _ _ _)
+loop-i-init c = put-none _ _ _
 
 pub loop-i-preserved : goal.loop-i-preserved
 loop-i-preserved c =
-    let lent = c.args in
-    (search rules, search rules, rw c.loop-i.invariant.2 (put-more _ lent.buf.now lent.to c.loop-i.i nan (search rules) _ c.f64_at.ensures))
-
-pub returns : goal.returns
-returns c =
-    put_all _ c.args.buf.now _ c.args.to _ _ c.loop-i.invariant.2 c.loop-i.invariant.0 c.loop-i-test.false
+    rw c.loop-i.invariant (put-more _ c.args.buf.now c.args.to c.loop-i.i nan (search rules) _ c.f64_at.ensures)

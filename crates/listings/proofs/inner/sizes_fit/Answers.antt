@@ -3,10 +3,10 @@ use borrow.Author.Tests.{le-leb, lt-leb}
 use Rattle.doubles.specs.Num.{◌and◌}
 use Rattle.listings.proofs.inner.sizes_fit.Goals as goal
 
-pub returns-then-w-gt32 : goal.returns-then-w-gt32
+pub returns-then-w-le32 : goal.returns-then-w-le32
 unfolding ◌and◌
-returns-then-w-gt32 c = rw (lt-leb _ _ c.if-w-gt32.true)
+returns-then-w-le32 c = rw (le-leb _ _ c.if-w-le32.true)
 
-pub returns : goal.returns
+pub returns-else-w-le32 : goal.returns-else-w-le32
 unfolding ◌and◌
-returns c = rw (le-leb _ _ c.if-w-gt32.false)
+returns-else-w-le32 c = rw (lt-leb _ _ c.if-w-le32.false)
