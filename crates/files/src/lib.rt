@@ -2,7 +2,7 @@
 #![tactic(auto)]
 
 ghost use Rattle.std.specs.Prelude.{◌≡◌, true, ◌+◌, ◌≤◌, length};
-ghost use Rattle.doubles.specs.Answer.{refused as refused'};
+ghost use Rattle.doubles.specs.Answer.{outcome_of};
 ghost use Rattle.files.specs.Problem as def;
 ghost use Rattle.files.specs.Call as call;
 ghost use Rattle.files.specs.Inner.Places as here;
@@ -10,37 +10,34 @@ ghost use Rattle.files.specs.Inner.Places as here;
 use crate::inner::{f64_at, put_doubles, put_indices, u16_at, u32_at};
 use definition::Settings;
 use designs::{Layout, Shape};
-use doubles::Refusal;
+use doubles::{Reason, Refusal};
 use penalties::separable::Penalty;
 
 pub mod inner;
+
+// How many elements each array of a problem has.
+#[derive(Clone, Copy, PartialEq, Eq, Debug, Drop)]
+pub struct Counts {
+    pub targets: usize,
+    pub values: usize,
+    pub starts: usize,
+    pub rows: usize,
+}
 
 // What was read: up to place `at`, the last field with tag `tag`; and how many elements each array has.
 #[derive(Clone, Copy, Drop)]
 pub struct Cursor {
     pub at: usize,
     pub tag: usize,
-    pub targets: usize,
-    pub values: usize,
-    pub starts: usize,
-    pub rows: usize,
+    pub counts: Counts,
 }
 
-// The numbers of a problem, and how many places each of its arrays has.
+// The numbers of a problem, and how many elements each of its arrays has.
 #[derive(Clone, Copy, Drop)]
 pub struct Sizes {
     pub shape: Shape,
     pub settings: Settings,
-    pub targets: usize,
-    pub values: usize,
-    pub starts: usize,
-    pub rows: usize,
-}
-
-#[derive(Clone, Copy, Drop)]
-pub enum Parsed {
-    Refused(Refusal),
-    Read(Sizes),
+    pub counts: Counts,
 }
 
 // ---- the header
@@ -150,18 +147,18 @@ fn is_stored(tag: usize, values: usize, many: usize) -> bool
 
 // Whether a field behind the header, which is not cut, is one that may come next.
 fn is_field(file: &[u8], c: Cursor) -> bool
-    requires { (def.whole file.now c.at ≡ true) × (12 ≤ length file.now) × (length file.now ≤ 49152) × (c.values ≤ 4096) }
-    ensures { result ≡ def.good_field file.now c.at c.tag c.values }
+    requires { (def.whole file.now c.at ≡ true) × (12 ≤ length file.now) × (length file.now ≤ 49152) × (c.counts.values ≤ 4096) }
+    ensures { result ≡ def.good_field file.now c.at c.tag c.counts.values }
 {
     let tag = file[c.at] as usize;
     let many = u16_at(file, c.at + 1);
     let no_rest = many % size_of(tag) == 0;
-    is_known(file, tag) && c.tag <= tag && no_rest && is_stored(tag, c.values, many / 8)
+    is_known(file, tag) && c.tag <= tag && no_rest && is_stored(tag, c.counts.values, many / 8)
 }
 
 fn is_good(file: &[u8], c: Cursor) -> bool
-    requires { (c.at ≤ length file.now) × (length file.now ≤ 49152) × (c.values ≤ 4096) × here.Headed file.now c.at }
-    ensures { result ≡ def.good_at file.now c.at c.tag c.values }
+    requires { (c.at ≤ length file.now) × (length file.now ≤ 49152) × (c.counts.values ≤ 4096) × here.Headed file.now c.at }
+    ensures { result ≡ def.good_at file.now c.at c.tag c.counts.values }
 {
     if !is_whole(file, c.at) {
         return false;
@@ -176,7 +173,7 @@ fn is_good(file: &[u8], c: Cursor) -> bool
 // Behind the field at the cursor.
 fn advance(file: &[u8], c: Cursor) -> Cursor
     requires { (c.at + 3 ≤ length file.now) × (length file.now ≤ 49152)
-        × (c.targets ≤ 6144) × (c.values ≤ 4096) × (c.starts ≤ 12288) × (c.rows ≤ 12288) }
+        × (c.counts.targets ≤ 6144) × (c.counts.values ≤ 4096) × (c.counts.starts ≤ 12288) × (c.counts.rows ≤ 12288) }
     ensures { result ≡ here.advanced file.now c }
 {
     let tag = file[c.at] as usize;
@@ -184,10 +181,12 @@ fn advance(file: &[u8], c: Cursor) -> Cursor
     Cursor {
         at: c.at + 3 + many,
         tag,
-        targets: grown(c.targets, tag == 2, many / 8),
-        values: grown(c.values, tag == 3, many / 8),
-        starts: grown(c.starts, tag == 4, many / 4),
-        rows: grown(c.rows, tag == 5, many / 4),
+        counts: Counts {
+            targets: grown(c.counts.targets, tag == 2, many / 8),
+            values: grown(c.counts.values, tag == 3, many / 8),
+            starts: grown(c.counts.starts, tag == 4, many / 4),
+            rows: grown(c.counts.rows, tag == 5, many / 4),
+        },
     }
 }
 
@@ -210,10 +209,10 @@ fn store(
 )
     requires { (def.whole file.now c.at ≡ true) × (length file.now ≤ 49152)
         × (keep ≡ true → here.Space file.now c (length targets.old) (length values.old) (length starts.old) (length rows.old)) }
-    ensures { (targets.new ≡ here.stored_in keep file.now c.at 2 targets.old c.targets)
-        × (values.new ≡ here.stored_in keep file.now c.at 3 values.old c.values)
-        × (starts.new ≡ here.indexed_in keep file.now c.at 4 starts.old c.starts)
-        × (rows.new ≡ here.indexed_in keep file.now c.at 5 rows.old c.rows) }
+    ensures { (targets.new ≡ here.stored_in keep file.now c.at 2 targets.old c.counts.targets)
+        × (values.new ≡ here.stored_in keep file.now c.at 3 values.old c.counts.values)
+        × (starts.new ≡ here.indexed_in keep file.now c.at 4 starts.old c.counts.starts)
+        × (rows.new ≡ here.indexed_in keep file.now c.at 5 rows.old c.counts.rows) }
 {
     if !keep {
         return;
@@ -221,10 +220,10 @@ fn store(
     let many = u16_at(file, c.at + 1);
     let body = c.at + 3;
     match file[c.at] {
-        2 => put_doubles(file, body, many / 8, targets, c.targets),
-        3 => put_doubles(file, body, many / 8, values, c.values),
-        4 => put_indices(file, body, many / 4, starts, c.starts),
-        5 => put_indices(file, body, many / 4, rows, c.rows),
+        2 => put_doubles(file, body, many / 8, targets, c.counts.targets),
+        3 => put_doubles(file, body, many / 8, values, c.counts.values),
+        4 => put_indices(file, body, many / 4, starts, c.counts.starts),
+        5 => put_indices(file, body, many / 4, rows, c.counts.rows),
         _ => {}
     }
 }
@@ -249,10 +248,12 @@ fn read_fields(
     let mut c = Cursor {
         at: 0,
         tag: 0,
-        targets: 0,
-        values: 0,
-        starts: 0,
-        rows: 0,
+        counts: Counts {
+            targets: 0,
+            values: 0,
+            starts: 0,
+            rows: 0,
+        },
     };
     while is_good(file, c) {
         store(file, keep, c, targets, values, starts, rows);
@@ -262,12 +263,6 @@ fn read_fields(
 }
 
 // ---- the call
-
-fn refused(number: u32, place: usize) -> Parsed
-    ensures { (call.parsed_of result ≡ refused' number place) × call.Inside result }
-{
-    Parsed::Refused(Refusal { number, place })
-}
 
 fn has_room(targets: &[f64], values: &[f64], starts: &[u32], rows: &[u32]) -> bool
     ensures { result ≡ call.places_suffice (call.places targets.now values.now starts.now rows.now) }
@@ -288,30 +283,27 @@ pub fn read(
     values: &mut [f64],
     starts: &mut [u32],
     rows: &mut [u32],
-) -> Parsed
+) -> Result<Sizes, Refusal>
     ensures { let lent = call.places targets.old values.old starts.old rows.old in
-        (call.parsed_of result ≡ call.read_call file.now lent)
+        (outcome_of result ≡ call.read_call file.now lent)
         × (call.places targets.new values.new starts.new rows.new ≡ call.read_left file.now lent)
-        × call.Inside result }
+        × call.Inside (outcome_of result) }
 {
     if 49152 < file.len() {
-        return refused(9, 49152);
+        return Err(Reason::File.at(49152));
     }
     // Once to see that the file is good and nothing has to be refused, and then once more to keep its arrays.
     let c = read_fields(file, false, targets, values, starts, rows);
     if !has_ended(file, c.at) {
-        return refused(9, c.at);
+        return Err(Reason::File.at(c.at));
     }
     if !has_room(targets, values, starts, rows) {
-        return refused(3, 0);
+        return Err(Reason::Room.at(0));
     }
     let d = read_fields(file, true, targets, values, starts, rows);
-    Parsed::Read(Sizes {
+    Ok(Sizes {
         shape: shape_of(file),
         settings: settings_of(file),
-        targets: d.targets,
-        values: d.values,
-        starts: d.starts,
-        rows: d.rows,
+        counts: d.counts,
     })
 }

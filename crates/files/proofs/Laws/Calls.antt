@@ -81,12 +81,12 @@ module _ (f : List ℕ) (b : Places) where
 -- the sizes, as the second pass counted them
 module _ (f : List ℕ) (d : Cursor) (C : Counted f d (read_all f)) where
   pub sizes-read : (a : Shape) (e : Settings) → a ≡ header_shape f → e ≡ header_settings f
-      → answered (record { shape = a; settings = e; targets = d.targets; values = d.values; starts = d.starts; rows = d.rows })
+      → answered (record { shape = a; settings = e; counts = d.counts })
       ≡ answered (sizes_of (problem f (read_all f)))
   sizes-read a e ea ee = rw (ea, ee, C.targets, C.values, C.starts, C.rows)
 
   pub sizes-inside : length f ≤ 49152 → Header f → (a : Shape) → a ≡ header_shape f
-      → (d.targets ≤ 6144) × (d.values ≤ 4096) × (d.starts ≤ 12288) × (d.rows ≤ 12288) × (a.n ≤ 256) × (a.p ≤ 32)
+      → (d.counts.targets ≤ 6144) × (d.counts.values ≤ 4096) × (d.counts.starts ≤ 12288) × (d.counts.rows ≤ 12288) × (a.n ≤ 256) × (a.p ≤ 32)
   unfolding header_shape good_header
   sizes-inside l H a e =
       let w = C.within in

@@ -37,5 +37,5 @@ returns-then-no_rest c =
 
 pub returns-else-no_rest : goal.returns-else-no_rest
 returns-else-no_rest c =
-    let h = failed _ c.args.c.at c.args.c.tag c.args.c.values c.is_known.ensures c.u16_at-many.ensures.0 c.size_of.ensures c.if-no_rest.either in
+    let h = failed _ c.args.c.at c.args.c.tag c.args.c.counts.values c.is_known.ensures c.u16_at-many.ensures.0 c.size_of.ensures c.if-no_rest.either in
     cc

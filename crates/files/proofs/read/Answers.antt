@@ -1,5 +1,5 @@
 -- `read`: the tests in their order, a pass that keeps nothing and a pass that keeps the arrays. Assumes nothing.
-use mathlib.Core.Path.{◌≡◌, sym, ap, ◌∙◌}
+use mathlib.Core.Path.{◌≡◌, refl, sym, ap, ◌∙◌}
 use mathlib.Core.List.{List}
 use mathlib.Core.Bool.{false≢true}
 use Prim.Native.Nat.{ℕ, ◌≤◌}
@@ -46,8 +46,8 @@ pub returns-then-file-gt49152 : goal.returns-then-file-gt49152
 returns-then-file-gt49152 c =
     let a = c.args in
     let lent = places a.targets.now a.values.now a.starts.now a.rows.now in
-    let e = too_long _ lent c.if-file-gt49152.true _ c.refused.ensures.0 in
-    (e.0, e.1, c.refused.ensures.1)
+    let e = too_long _ lent c.if-file-gt49152.true _ refl in
+    rw c.at.ensures (e.0, e.1, tt)
 
 pub read_fields-c-requires : goal.read_fields-c-requires
 read_fields-c-requires c = (omega arith, λ k. absurd (false≢true k))
@@ -57,8 +57,8 @@ returns-then-not-has_ended c =
     let a = c.args in
     let lent = places a.targets.now a.values.now a.starts.now a.rows.now in
     let over = not-ended a.file.now lent (omega arith) _ c.read_fields-c.ensures.0 _ c.has_ended.ensures c.if-not-has_ended.true in
-    let e = over _ _ c.refused-then-not-has_ended.ensures.0 (untouched (goal.at.returns-then-not-has_ended c).After-read_fields-c) in
-    (e.0, e.1, c.refused-then-not-has_ended.ensures.1)
+    let e = over _ _ refl (untouched (goal.at.returns-then-not-has_ended c).After-read_fields-c) in
+    rw c.at-then-not-has_ended.ensures (e.0, e.1, tt)
 
 pub returns-then-not-has_room : goal.returns-then-not-has_room
 returns-then-not-has_room c =
@@ -68,8 +68,8 @@ returns-then-not-has_room c =
     -- the test of the room is that of what was lent
     let room = c.has_room.ensures ∙ ap places_suffice same in
     let over = no_room a.file.now lent (omega arith) _ c.read_fields-c.ensures.0 _ c.has_ended.ensures c.if-not-has_ended.false in
-    let e = over (sym room ∙ c.if-not-has_room.true) _ _ c.refused-then-not-has_room.ensures.0 same in
-    (e.0, e.1, c.refused-then-not-has_room.ensures.1)
+    let e = over (sym room ∙ c.if-not-has_room.true) _ _ refl same in
+    rw c.at-then-not-has_room.ensures (e.0, e.1, tt)
 
 pub read_fields-d-requires : goal.read_fields-d-requires
 read_fields-d-requires c =

@@ -18,15 +18,15 @@ Headed f o = (o ≡ 0 → ⊥) → Header f
 pub record Counted (f : List ℕ) (c : Cursor) (s : Read) : Type 0 where
   pub at : c.at ≡ s.at
   pub tag : c.tag ≡ s.tag
-  pub targets : c.targets ≡ length s.targets
-  pub values : c.values ≡ length s.values
-  pub starts : c.starts ≡ length s.starts
-  pub rows : c.rows ≡ length s.rows
+  pub targets : c.counts.targets ≡ length s.targets
+  pub values : c.counts.values ≡ length s.values
+  pub starts : c.counts.starts ≡ length s.starts
+  pub rows : c.counts.rows ≡ length s.rows
   pub within : c.at ≤ length f
-  pub few-targets : 8 * c.targets ≤ c.at
-  pub few-values : c.values ≤ 4096
-  pub few-starts : 4 * c.starts ≤ c.at
-  pub few-rows : 4 * c.rows ≤ c.at
+  pub few-targets : 8 * c.counts.targets ≤ c.at
+  pub few-values : c.counts.values ≤ 4096
+  pub few-starts : 4 * c.counts.starts ≤ c.at
+  pub few-rows : 4 * c.counts.rows ≤ c.at
   pub headed : Headed f c.at
 
 -- ---- behind a field
@@ -37,19 +37,21 @@ unfoldable pub advanced : List ℕ → Cursor → Cursor
 advanced f c = record {
   at = c.at + 3 + length_at f c.at;
   tag = tag_at f c.at;
-  targets = grown_by c.targets (eqb (tag_at f c.at) 2) (length_at f c.at / 8);
-  values = grown_by c.values (eqb (tag_at f c.at) 3) (length_at f c.at / 8);
-  starts = grown_by c.starts (eqb (tag_at f c.at) 4) (length_at f c.at / 4);
-  rows = grown_by c.rows (eqb (tag_at f c.at) 5) (length_at f c.at / 4);
+  counts = record {
+    targets = grown_by c.counts.targets (eqb (tag_at f c.at) 2) (length_at f c.at / 8);
+    values = grown_by c.counts.values (eqb (tag_at f c.at) 3) (length_at f c.at / 8);
+    starts = grown_by c.counts.starts (eqb (tag_at f c.at) 4) (length_at f c.at / 4);
+    rows = grown_by c.counts.rows (eqb (tag_at f c.at) 5) (length_at f c.at / 4);
+  };
 }
 
 -- ---- the lent places
 -- each array has room for the field's elements, if they are its own
 pub record Space (f : List ℕ) (c : Cursor) (a b d e : ℕ) : Type 0 where
-  pub targets : tag_at f c.at ≡ 2 → c.targets + length_at f c.at / 8 ≤ a
-  pub values : tag_at f c.at ≡ 3 → c.values + length_at f c.at / 8 ≤ b
-  pub starts : tag_at f c.at ≡ 4 → c.starts + length_at f c.at / 4 ≤ d
-  pub rows : tag_at f c.at ≡ 5 → c.rows + length_at f c.at / 4 ≤ e
+  pub targets : tag_at f c.at ≡ 2 → c.counts.targets + length_at f c.at / 8 ≤ a
+  pub values : tag_at f c.at ≡ 3 → c.counts.values + length_at f c.at / 8 ≤ b
+  pub starts : tag_at f c.at ≡ 4 → c.counts.starts + length_at f c.at / 4 ≤ d
+  pub rows : tag_at f c.at ≡ 5 → c.counts.rows + length_at f c.at / 4 ≤ e
 
 -- room for any file's
 pub record Suffice (a b d e : ℕ) : Type 0 where
