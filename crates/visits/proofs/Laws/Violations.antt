@@ -1,33 +1,39 @@
 -- Violations, one feature after another: as long as all are finite the largest goes on, and the first that is not ends the loop. Assumes nothing.
-use mathlib.Core.Path.{◌≡◌, sym, ap, ◌∙◌}
+use mathlib.Core.Path.{◌≡◌, ap, ◌∙◌}
 use mathlib.Core.Bool.{Bool, true, false}
 use mathlib.Core.List.{List}
 use Prim.Native.Nat.{ℕ, ◌+◌, ◌≤◌, ◌<◌}
-use lib.Ieee.{Float, inf, neg, div, of_bits}
+use lib.Ieee.{Float, inf, binary64, of_bits}
 use lib.ListN.{length}
-use Rattle.doubles.specs.Num.{◌⊘◌, #0, #1, at, finite, larger, pick, ◌and◌}
+use Rattle.std.specs.Prelude.{Result, Err}
+use Rattle.std.specs.Result.{IsErrAnd}
+use Rattle.std.proofs.lemmas.Result.{err_from_is_err_and}
+use Rattle.doubles.specs.declared.NotFinite.{NotFinite}
+use Rattle.doubles.specs.Num.{at, finite, larger, pick, ◌and◌}
 use Rattle.doubles.specs.Steps.{Stage, going, bad, all, largest, tab}
 use Rattle.doubles.proofs.Laws.Steps.{steps-none, steps-turn, steps_all, steps-same, tab-same, all_more, all_broken, picked, not_picked}
 use Rattle.penalties.specs.Penalty.{violation}
 use Rattle.penalties.specs.declared.separable.Penalty.{Penalty}
-use Rattle.designs.specs.Design.{Design, design, gradient, full_gradient}
+use Rattle.designs.specs.Design.{Design, design, full_gradient}
 use Rattle.designs.specs.declared.Shape.{Shape}
 use Rattle.designs.proofs.Laws.Layouts.{features}
 use Rattle.designs.proofs.Laws.Gradients.{length_gradients, gradients_at}
 use Rattle.definition.specs.Epoch.{Task, task, gradient_of, violation_of, known, all_known, violations, worst}
-use Rattle.visits.specs.Inner.Reading.{worst_of, violation_at, violation_there, known_there, finished, measured}
-use Rattle.visits.specs.declared.Worst.{Worst}
-use Rattle.visits.specs.declared.Worst.TheVariants.{Bad, Is}
+use Rattle.visits.specs.Inner.Reading.{violation_at, violation_there, known_there, finished, measured}
 
--- ---- the arms of a match on one feature's answer
-module _ (penalty : Penalty) (w g : Float) (r : Worst) (e : worst_of r ≡ violation_at penalty w g) where
-  arm_is : (v : Float) → r ≡ Is v → (finite g and finite (violation penalty w g) ≡ true) × (v ≡ violation penalty w g)
-  unfolding violation_at
-  arm_is v q = picked _ _ v (sym (ap worst_of q) ∙ e)
+-- what a `?` hands on
+pub broken_off : {A : Type 0} (r : Result A NotFinite) {e : NotFinite} → IsErrAnd r (λ y. y ≡ e) → r ≡ Err e
+broken_off r h = let p = err_from_is_err_and r h in p.1 ∙ ap Err p.2
 
-  arm_bad : r ≡ Bad → finite g and finite (violation penalty w g) ≡ false
+-- ---- what is known of one feature's answer
+module _ (penalty : Penalty) (w g : Float) where
+  is_known : {v : Float} → going v ≡ violation_at penalty w g → (finite g and finite (violation penalty w g) ≡ true) × (v ≡ violation penalty w g)
   unfolding violation_at
-  arm_bad q = not_picked _ _ (sym (ap worst_of q) ∙ e)
+  is_known {v} e = picked _ _ v e
+
+  is_bad : bad ≡ violation_at penalty w g → finite g and finite (violation penalty w g) ≡ false
+  unfolding violation_at
+  is_bad e = not_picked _ _ e
 
 -- ---- a loop over features, where w and g give each one's weight and gradient
 abbrev pub all_of : Penalty → (ℕ → Float) → (ℕ → Float) → ℕ → Bool
@@ -41,8 +47,8 @@ pub record Passed (penalty : Penalty) (w g : ℕ → Float) (i : ℕ) (l : Float
   pub finites : true ≡ all_of penalty w g i
   pub worst : l ≡ largest_of penalty w g i
 
-pub passed_none : {penalty : Penalty} {w g : ℕ → Float} → Passed penalty w g 0 (neg (#1 ⊘ #0))
-unfolding neg div of_bits
+pub passed_none : {penalty : Penalty} {w g : ℕ → Float} → Passed penalty w g 0 (of_bits binary64 0xfff0_0000_0000_0000)
+unfolding of_bits
 passed_none = record { finites = steps-none _ _; worst = steps-none _ _ }
 
 module _ {penalty : Penalty} {w g : ℕ → Float} {i : ℕ} {l : Float} (p : Passed penalty w g i l) where
@@ -50,24 +56,16 @@ module _ {penalty : Penalty} {w g : ℕ → Float} {i : ℕ} {l : Float} (p : Pa
       → going (f l) ≡ pick (all_of penalty w g n) (going (f (largest_of penalty w g n))) bad
   passed_all f n a b = rw (← steps_all _ _ i n true p.finites a b, ← steps_all _ _ i n l p.worst a b)
 
-  module _ {r : Worst} (e : worst_of r ≡ violation_at penalty (w i) (g i)) where
-    pub passed_more : {v m : Float} → r ≡ Is v → m ≡ larger l v → Passed penalty w g (i + 1) m
-    passed_more {v} {m} q h =
-        let a = arm_is penalty (w i) (g i) r e v q in
-        record { finites = all_more _ i p.finites a.0; worst = steps-turn _ _ i l m p.worst (rw (← a.1) h) }
+  pub passed_more : {v m : Float} → going v ≡ violation_at penalty (w i) (g i) → m ≡ larger l v → Passed penalty w g (i + 1) m
+  passed_more {v} {m} e h =
+      let a = is_known penalty (w i) (g i) e in
+      record { finites = all_more _ i p.finites a.0; worst = steps-turn _ _ i l m p.worst (rw (← a.1) h) }
 
-    pub passed_bad : {A : Type 0} (x : A) (n : ℕ) → r ≡ Bad → i < n → bad ≡ pick (all_of penalty w g n) (going x) bad
-    passed_bad x n q h = rw (← all_broken _ i n p.finites (arm_bad penalty (w i) (g i) r e q) h)
+  pub passed_bad : {A : Type 0} (x : A) (n : ℕ) → bad ≡ violation_at penalty (w i) (g i) → i < n → bad ≡ pick (all_of penalty w g n) (going x) bad
+  passed_bad x n e h = rw (← all_broken _ i n p.finites (is_bad penalty (w i) (g i) e) h)
 
-    pub passed_value : {v : Float} → r ≡ Is v → v ≡ violation penalty (w i) (g i)
-    passed_value {v} q = (arm_is penalty (w i) (g i) r e v q).1
-
--- the answer for a feature of a working set, which is k, of its weight a and its gradient g
-pub of_feature : (T : Task) (w fit : List Float) (j k : ℕ) (a g : Float) (x : Stage Float) → j ≡ k → a ≡ at w j
-    → g ≡ gradient T.X j fit (at T.prepared (T.p + j)) → x ≡ violation_at T.penalty a g
-    → x ≡ violation_at T.penalty (at w k) (gradient_of T fit k)
-unfolding gradient_of
-of_feature T w fit j k a g x ej ea eg e = e ∙ rw (ea, eg, ej)
+  pub passed_value : {v : Float} → going v ≡ violation_at penalty (w i) (g i) → v ≡ violation penalty (w i) (g i)
+  passed_value {v} e = (is_known penalty (w i) (g i) e).1
 
 -- the answer for feature j of all, of its weight a and its gradient x
 pub of_place : (penalty : Penalty) (w g : List Float) (j : ℕ) (a x : Float) (r : Stage Float) → a ≡ at w j → x ≡ at g j → r ≡ violation_at penalty a x
@@ -76,9 +74,9 @@ of_place penalty w g j a x r ea ex e = e ∙ rw (ea, ex)
 
 -- ---- the slice whose first gradients are violations already: how the loop over it ends
 module _ (penalty : Penalty) (w g : List Float) {i : ℕ} {x : Float} (h : Passed penalty (at w) (at g) i x) where
-  pub finished-bad : {r : Worst} → worst_of r ≡ violation_at penalty (at w i) (at g i) → r ≡ Bad → i < length g → bad ≡ finished penalty w g
+  pub finished-bad : bad ≡ violation_at penalty (at w i) (at g i) → i < length g → bad ≡ finished penalty w g
   unfolding finished
-  finished-bad a q k = passed_bad h a _ (length g) q k
+  finished-bad e k = passed_bad h _ (length g) e k
 
   pub finished-all : (l : List Float) → l ≡ tab (violation_there penalty w g) (length g) → i ≤ length g → length g ≤ i
       → going (record { largest = x; violations = l }) ≡ finished penalty w g

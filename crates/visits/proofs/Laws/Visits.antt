@@ -1,17 +1,19 @@
 -- One visit, branch by branch, and the visits of an epoch one after the other. Assumes nothing.
-use mathlib.Core.Path.{◌≡◌, refl, sym, ap, ◌∙◌}
+use mathlib.Core.Path.{◌≡◌, refl, ◌∙◌}
 use mathlib.Core.Bool.{Bool, true, false}
 use mathlib.Core.List.{List}
 use Prim.Native.Nat.{ℕ, ◌+◌, ◌<◌}
 use lib.Ieee.{Float, eq}
 use lib.ListN.{length, get_or, set}
+use Rattle.std.specs.Prelude.{Result, Ok, Err}
+use Rattle.doubles.specs.declared.NotFinite.{NotFinite}
 use Rattle.doubles.specs.Num.{◌⊖◌, ◌⊘◌, #0, #1, at, finite, pick, ◌and◌, ◌or◌}
 use Rattle.doubles.specs.Steps.{going, bad, upto}
-use Rattle.doubles.proofs.Laws.Steps.{upto_true, upto_false}
+use Rattle.doubles.proofs.Laws.Steps.{upto-more, upto-over}
 use Rattle.penalties.specs.Penalty.{prox}
 use Rattle.designs.specs.Design.{Design, moved, finite_at}
 use Rattle.definition.specs.Epoch.{Task, Point, constant, gradient_of, new_weight, moved_by, moved_finite, fine, visited, visit, visits}
-use Rattle.visits.specs.Inner.Reading.{visit_of}
+use Rattle.visits.specs.Inner.Reading.{visit_of, went_well}
 
 -- ---- the fit
 module _ (X : Design) (j : ℕ) (d : Float) (fit : List Float) where
@@ -25,9 +27,9 @@ module _ (X : Design) (j : ℕ) (d : Float) (fit : List Float) where
   moves e m r q h = (rw e (h ∙ rw q), rw e q)
 
 -- ---- one visit
-told : (r : Bool) (w fit : List Float) → visit_of r w fit ≡ pick r (going (record { weights = w; fit = fit })) bad
-told true w fit = refl
-told false w fit = refl
+told : (r : Result (Unit {0}) NotFinite) (w fit : List Float) → visit_of r w fit ≡ pick (went_well r) (going (record { weights = w; fit = fit })) bad
+told (Ok u) w fit = refl
+told (Err e) w fit = refl
 
 -- l is the constant
 module _ (T : Task) (j : ℕ) (s : Point) (l : Float) (el : l ≡ constant T j) where
@@ -53,20 +55,16 @@ module _ (T : Task) (j : ℕ) (s : Point) (l : Float) (el : l ≡ constant T j) 
       bad-weight k = rw (← el, e, ← eg, ← ea, h, ← is-new, ← eb, k)
 
       -- which is finite too; w are the weights, and m is the fit
-      pub visit_moves : b ≡ true → (r : Bool) (w m : List Float) → w ≡ set s.weights j n
-          → (r ≡ moved_finite T.X j (n ⊖ o) s.fit) × (m ≡ moved_by T.X j (n ⊖ o) s.fit) → visit_of r w m ≡ visit T j s
+      pub visit_moves : b ≡ true → (r : Result (Unit {0}) NotFinite) (w m : List Float) → w ≡ set s.weights j n
+          → (went_well r ≡ moved_finite T.X j (n ⊖ o) s.fit) × (m ≡ moved_by T.X j (n ⊖ o) s.fit) → visit_of r w m ≡ visit T j s
       unfolding visit fine visited ◌and◌
       visit_moves k r w m ew q = told r w m ∙ rw (← el, e, ← eg, ← ea, h, ← is-new, ← eb, k, ew, q.0, q.1, eo)
 
 -- ---- one more visit of the epoch, and the first that fails
-module _ (T : Task) (ws : List ℕ) (s₀ : Point) (i : ℕ) (s : Point) (w fit : List Float) (r : Bool)
-    (e : going s ≡ upto (λ k. visit T (get_or ws k 0)) i s₀) (j : ℕ) (ej : j ≡ get_or ws i 0) (q : visit_of r w fit ≡ visit T j s) where
-  visit_here : pick r (going (record { weights = w; fit = fit })) bad ≡ visit T (get_or ws i 0) s
-  visit_here = sym (told r w fit) ∙ q ∙ ap (λ (k : ℕ). visit T k s) ej
+module _ (T : Task) (ws : List ℕ) (s₀ : Point) (i : ℕ) (s : Point) (e : going s ≡ upto (λ k. visit T (get_or ws k 0)) i s₀) where
+  pub visits-more : (t : Point) → going t ≡ visit T (get_or ws i 0) s → going t ≡ upto (λ k. visit T (get_or ws k 0)) (i + 1) s₀
+  visits-more t q = upto-more _ _ i s t e q
 
-  pub visits-more : r ≡ true → going (record { weights = w; fit = fit }) ≡ upto (λ k. visit T (get_or ws k 0)) (i + 1) s₀
-  visits-more h = upto_true (λ k. visit T (get_or ws k 0)) s₀ i s _ r e visit_here h
-
-  pub visits_broken : r ≡ false → i < length ws → bad ≡ visits T ws s₀
+  pub visits_broken : bad ≡ visit T (get_or ws i 0) s → i < length ws → bad ≡ visits T ws s₀
   unfolding visits
-  visits_broken h k = upto_false (λ k. visit T (get_or ws k 0)) s₀ i (length ws) s _ r e visit_here h k
+  visits_broken q h = upto-over _ _ i (length ws) s bad e q refl h

@@ -3,19 +3,19 @@ use Rattle.doubles.specs.Num.{◌and◌}
 use Rattle.visits.specs.Inner.Reading.{violation_at}
 use Rattle.visits.proofs.violation_at.Goals as goal
 
-pub returns-else-is_finite : goal.returns-else-is_finite
+pub returns-then-not-is_finite : goal.returns-then-not-is_finite
 unfolding violation_at ◌and◌
-returns-else-is_finite c = rw (← c.is_finite.ensures, c.if-is_finite.false)
+returns-then-not-is_finite c = rw (← c.is_finite.ensures, c.if-not-is_finite.true)
 
-pub returns-else-is_finite-2 : goal.returns-else-is_finite-2
+pub returns-then-not-is_finite-2 : goal.returns-then-not-is_finite-2
 unfolding violation_at ◌and◌
-returns-else-is_finite-2 c =
+returns-then-not-is_finite-2 c =
     rw (
       ← c.is_finite.ensures,
-      c.if-is_finite.true,
+      c.if-not-is_finite.false,
       ← c.violation-v.ensures,
       ← c.is_finite-2.ensures,
-      c.if-is_finite-2.false,
+      c.if-not-is_finite-2.true,
     )
 
 pub returns : goal.returns
@@ -23,8 +23,8 @@ unfolding violation_at ◌and◌
 returns c =
     rw (
       ← c.is_finite.ensures,
-      c.if-is_finite.true,
+      c.if-not-is_finite.false,
       ← c.violation-v.ensures,
       ← c.is_finite-2.ensures,
-      c.if-is_finite-2.true,
+      c.if-not-is_finite-2.false,
     )

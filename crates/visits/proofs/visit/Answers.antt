@@ -1,52 +1,29 @@
 -- `visit`: one branch after the other. Assumes nothing.
-use Rattle.definition.specs.Epoch.{Point, task, gradient_of}
+use Rattle.definition.specs.Epoch.{gradient_of}
+use Rattle.definition.specs.Inner.Problem.{task_in}
 use Rattle.visits.proofs.Laws.Visits.{visit_skips, bad-gradient, bad-weight, visit_moves}
 use Rattle.visits.proofs.visit.Goals as goal
 
 pub returns-then-lipschitz : goal.returns-then-lipschitz
-returns-then-lipschitz c =
-    let a = c.args in
-    let T = task a.shape a.starts.now a.rows.now a.values.now a.penalty a.prepared.now in
-    let point : Point = record { weights = a.w.now; fit = a.fit.now } in
-    visit_skips T a.feature.0 point _ c.constant-lipschitz.ensures c.if-lipschitz.true
+returns-then-lipschitz c = visit_skips (task_in c.args.problem.now) _ _ _ c.constant-lipschitz.ensures c.if-lipschitz.true
 
-pub returns-else-is_finite : goal.returns-else-is_finite
+pub returns-then-not-is_finite : goal.returns-then-not-is_finite
 unfolding gradient_of
-returns-else-is_finite c =
-    let a = c.args in
-    let T = task a.shape a.starts.now a.rows.now a.values.now a.penalty a.prepared.now in
-    let point : Point = record { weights = a.w.now; fit = a.fit.now } in
-    bad-gradient T a.feature.0 point _ c.constant-lipschitz.ensures
-    c.if-lipschitz.false _ c.gradient_j-gradient.ensures _
-    c.is_finite.ensures c.if-is_finite.false
+returns-then-not-is_finite c =
+    bad-gradient (task_in c.args.problem.now) _ _ _ c.constant-lipschitz.ensures c.if-lipschitz.false _ c.gradient_j-gradient.ensures _
+    c.is_finite.ensures c.if-not-is_finite.true
 
-pub returns-else-is_finite-2 : goal.returns-else-is_finite-2
+pub returns-then-not-is_finite-2 : goal.returns-then-not-is_finite-2
 unfolding gradient_of
-returns-else-is_finite-2 c =
-    let a = c.args in
-    let T = task a.shape a.starts.now a.rows.now a.values.now a.penalty a.prepared.now in
-    let point : Point = record { weights = a.w.now; fit = a.fit.now } in
-    bad-weight T a.feature.0 point _ c.constant-lipschitz.ensures
-    c.if-lipschitz.false _
-    c.gradient_j-gradient.ensures _
-    c.is_finite.ensures c.if-is_finite.true _
-    c.weight-old.ensures _ c.prox-new.ensures _ c.is_finite-2.ensures c.if-is_finite-2.false
+returns-then-not-is_finite-2 c =
+    bad-weight (task_in c.args.problem.now) _ _ _ c.constant-lipschitz.ensures c.if-lipschitz.false _ c.gradient_j-gradient.ensures _
+    c.is_finite.ensures c.if-not-is_finite.false _
+    c.weight-old.ensures _ c.prox-new.ensures _ c.is_finite-2.ensures c.if-not-is_finite-2.true
 
 pub returns : goal.returns
 unfolding gradient_of
 returns c =
-    let a = c.args in
-    let T = task a.shape a.starts.now a.rows.now a.values.now a.penalty a.prepared.now in
-    let point : Point = record { weights = a.w.now; fit = a.fit.now } in
-    visit_moves T a.feature.0 point _
-    c.constant-lipschitz.ensures
-    c.if-lipschitz.false _
-    c.gradient_j-gradient.ensures _
-    c.is_finite.ensures
-    c.if-is_finite.true _
-    c.weight-old.ensures _
-    c.prox-new.ensures _
-    c.is_finite-2.ensures
-    c.if-is_finite-2.true _ _ _
-    c.set_weight.ensures
-    c.move_fit.ensures
+    visit_moves (task_in c.args.problem.now) _ _ _ c.constant-lipschitz.ensures c.if-lipschitz.false _ c.gradient_j-gradient.ensures _
+    c.is_finite.ensures c.if-not-is_finite.false _
+    c.weight-old.ensures _ c.prox-new.ensures _ c.is_finite-2.ensures c.if-not-is_finite-2.false _ _ _
+    c.set_weight.ensures c.move_fit.ensures

@@ -1,30 +1,34 @@
 -- What the answers of the solver's inner functions stand for: where a number is not finite, nothing is said of the buffers.
-use Rattle.std.specs.Prelude.{Bool, true, false, List, ℕ, length, Float}
+use Rattle.std.specs.Prelude.{Bool, true, false, List, ℕ, length, Float, Result, Ok, Err}
 use Rattle.doubles.specs.Num.{at, finite, pick, ◌and◌}
 use Rattle.doubles.specs.Steps.{Stage, going, bad, all, largest, tab}
+use Rattle.doubles.specs.declared.NotFinite.{NotFinite}
 use Rattle.penalties.specs.Penalty.{violation}
 use Rattle.penalties.specs.declared.separable.Penalty.{Penalty}
 use Rattle.definition.specs.Epoch.{Task, Point, all_known, worst, violations, known_in, worst_in}
-use Rattle.visits.specs.declared.Worst.{Worst}
-use Rattle.visits.specs.declared.Worst.TheVariants.{Bad, Is}
 
-abbrev pub worst_of : Worst → Stage Float
-worst_of Bad = bad
-worst_of (Is v) = going v
+abbrev pub worst_of : Result Float NotFinite → Stage Float
+worst_of (Ok v) = going v
+worst_of (Err e) = bad
 
 -- the largest violation, and all of them
 pub record Measured : Type 0 where
   pub largest : Float
   pub violations : List Float
 
-abbrev pub measured_of : Worst → List Float → Stage Measured
-measured_of Bad l = bad
-measured_of (Is v) l = going (record { largest = v; violations = l })
+abbrev pub measured_of : Result Float NotFinite → List Float → Stage Measured
+measured_of (Ok v) l = going (record { largest = v; violations = l })
+measured_of (Err e) l = bad
 
--- whether the visits went well, and the point they led to
-abbrev pub visit_of : Bool → List Float → List Float → Stage Point
-visit_of true w fit = going (record { weights = w; fit = fit })
-visit_of false w fit = bad
+-- whether what changed is finite
+abbrev pub went_well : Result (Unit {0}) NotFinite → Bool
+went_well (Ok u) = true
+went_well (Err e) = false
+
+-- the point that the visits led to, if they went well
+abbrev pub visit_of : Result (Unit {0}) NotFinite → List Float → List Float → Stage Point
+visit_of (Ok u) w fit = going (record { weights = w; fit = fit })
+visit_of (Err e) w fit = bad
 
 -- ---- one feature
 unfoldable pub violation_at : Penalty → Float → Float → Stage Float
