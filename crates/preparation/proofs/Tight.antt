@@ -7,5 +7,5 @@ use Rattle.doubles.specs.declared.Refusal.{Refusal}
 use Rattle.preparation.proofs.prepare.Reads as prepare_reads
 
 prepare_tight : (κs : _) (a : _) (r r' : Result (Unit {0}) Refusal) (s s' : _) → prepare_reads.Post κs a r s → prepare_reads.Post κs a r' s'
-    → (r ≡ r') × (s.1.1.1.1.1.0.now ≡ s'.1.1.1.1.1.0.now)
+    → (r ≡ r') × (s.1.1.0.now ≡ s'.1.1.0.now)
 prepare_tight κs a r r' s s' p q = (one_outcome r r' (coincide p.0 q.0), coincide p.1 q.1)
