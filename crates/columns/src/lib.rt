@@ -1,4 +1,4 @@
-// Inner functions over single columns of a design in either layout. The caller has tested the design, so nothing is tested here and nothing
+// Inner functions over single columns of a design in either layout. The design is a tested one, so nothing is tested here and nothing
 // is exported. A column operation touches the column's stored entries and nothing of size n or p besides.
 #![tactic(auto)]
 
@@ -6,10 +6,11 @@ ghost use Rattle.std.specs.Prelude.{◌≡◌, ℕ, ◌+◌, ◌-◌, ◌*◌, �
 ghost use Rattle.doubles.specs.Num.{#0, at, finite};
 ghost use Rattle.doubles.specs.Steps.{all, tab};
 ghost use Rattle.designs.specs.Design as def;
-ghost use Rattle.designs.specs.Inner.Sound.{Sound, Whole};
+ghost use Rattle.designs.specs.declared.Layout.TheVariants.{Dense, Csc};
 ghost use Rattle.columns.specs.Inner.RowFit.{row_fit};
 
-use designs::{Feature, Layout, Sample, Shape};
+use designs::tested::Tested;
+use designs::{Feature, Layout, Matrix, Sample};
 use doubles::is_finite;
 
 // The sample of a stored entry.
@@ -82,14 +83,14 @@ pub struct Stored {
     pub many: usize,
 }
 
-pub fn stored_of(starts: &[u32], feature: Feature) -> Stored
-    requires { (feature.0 + 1 < length starts.now) × (get_or starts.now feature.0 0 ≤ get_or starts.now (feature.0 + 1) 0) }
-    ensures { (result.start ≡ get_or starts.now feature.0 0)
-        × (result.many ≡ get_or starts.now (feature.0 + 1) 0 - get_or starts.now feature.0 0) }
+pub fn stored_of(x: &Tested<'_>, feature: Feature) -> Stored
+    requires { (x.now.matrix.shape.layout ≡ Csc) × (feature.0 < x.now.matrix.shape.p) }
+    ensures { let starts = x.now.matrix.starts.now in
+        (result.start ≡ get_or starts feature.0 0) × (result.many ≡ get_or starts (feature.0 + 1) 0 - get_or starts feature.0 0) }
 {
     let j = feature.0;
-    let start = starts[j] as usize;
-    let end = starts[j + 1] as usize;
+    let start = x.matrix.starts[j] as usize;
+    let end = x.matrix.starts[j + 1] as usize;
     Stored {
         start,
         many: end - start,
@@ -98,10 +99,11 @@ pub fn stored_of(starts: &[u32], feature: Feature) -> Stored
 
 // ---- column · v
 
-fn dense_dot(shape: Shape, values: &[f64], feature: Feature, v: &[f64]) -> f64
-    requires { (feature.0 < shape.p) × (shape.n * shape.p ≤ length values.now) × (shape.n ≤ length v.now) }
-    ensures { result ≡ def.dot (def.dense shape.n shape.p values.now) feature.0 v.now }
+fn dense_dot(x: &Tested<'_>, feature: Feature, v: &[f64]) -> f64
+    requires { (x.now.matrix.shape.layout ≡ Dense) × (feature.0 < x.now.matrix.shape.p) × (x.now.matrix.shape.n ≤ length v.now) }
+    ensures { result ≡ def.dot (def.of_matrix x.now.matrix) feature.0 v.now }
 {
+    let Matrix { shape, values, .. } = x.matrix;
     let mut s = 0.0;
     for i in 0..shape.n {
         s += values[i * shape.p + feature.0] * v[i];
@@ -109,19 +111,12 @@ fn dense_dot(shape: Shape, values: &[f64], feature: Feature, v: &[f64]) -> f64
     s
 }
 
-fn csc_dot(
-    shape: Shape,
-    starts: &[u32],
-    rows: &[u32],
-    values: &[f64],
-    feature: Feature,
-    v: &[f64],
-) -> f64
-    requires { (feature.0 < shape.p) × Sound shape.n shape.p starts.now rows.now values.now × (shape.n ≤ length v.now) }
-    ensures { let X = def.csc shape.n shape.p starts.now rows.now values.now in
-        result ≡ def.dot X feature.0 v.now }
+fn csc_dot(x: &Tested<'_>, feature: Feature, v: &[f64]) -> f64
+    requires { (x.now.matrix.shape.layout ≡ Csc) × (feature.0 < x.now.matrix.shape.p) × (x.now.matrix.shape.n ≤ length v.now) }
+    ensures { result ≡ def.dot (def.of_matrix x.now.matrix) feature.0 v.now }
 {
-    let Stored { start, many } = stored_of(starts, feature);
+    let Matrix { rows, values, .. } = x.matrix;
+    let Stored { start, many } = stored_of(x, feature);
     let mut s = 0.0;
     for e in start..start + many {
         s += values[e] * reading(v, sample_of(rows, e));
@@ -130,49 +125,34 @@ fn csc_dot(
 }
 
 // The product of a column and v, in either layout.
-pub fn column_dot(
-    shape: Shape,
-    starts: &[u32],
-    rows: &[u32],
-    values: &[f64],
-    feature: Feature,
-    v: &[f64],
-) -> f64
-    requires { (feature.0 < shape.p) × Whole shape starts.now rows.now values.now × (shape.n ≤ length v.now) }
-    ensures { let X = def.design shape starts.now rows.now values.now in
-        result ≡ def.dot X feature.0 v.now }
+pub fn column_dot(x: &Tested<'_>, feature: Feature, v: &[f64]) -> f64
+    requires { (feature.0 < x.now.matrix.shape.p) × (x.now.matrix.shape.n ≤ length v.now) }
+    ensures { result ≡ def.dot (def.of_matrix x.now.matrix) feature.0 v.now }
 {
-    match shape.layout {
-        Layout::Dense => dense_dot(shape, values, feature, v),
-        Layout::Csc => csc_dot(shape, starts, rows, values, feature, v),
+    match x.matrix.shape.layout {
+        Layout::Dense => dense_dot(x, feature, v),
+        Layout::Csc => csc_dot(x, feature, v),
     }
 }
 
 // ---- the fit gains d · column
 
-fn dense_update(shape: Shape, values: &[f64], feature: Feature, d: f64, fit: &mut [f64])
-    requires { (feature.0 < shape.p) × (shape.n * shape.p ≤ length values.now) × (shape.n ≤ length fit.old) }
-    ensures { fit.new ≡ def.moved (def.dense shape.n shape.p values.now) feature.0 d fit.old }
+fn dense_update(x: &Tested<'_>, feature: Feature, d: f64, fit: &mut [f64])
+    requires { (x.now.matrix.shape.layout ≡ Dense) × (feature.0 < x.now.matrix.shape.p) × (x.now.matrix.shape.n ≤ length fit.old) }
+    ensures { fit.new ≡ def.moved (def.of_matrix x.now.matrix) feature.0 d fit.old }
 {
+    let Matrix { shape, values, .. } = x.matrix;
     for i in 0..shape.n {
         fit[i] += d * values[i * shape.p + feature.0];
     }
 }
 
-fn csc_update(
-    shape: Shape,
-    starts: &[u32],
-    rows: &[u32],
-    values: &[f64],
-    feature: Feature,
-    d: f64,
-    fit: &mut [f64],
-)
-    requires { (feature.0 < shape.p) × Sound shape.n shape.p starts.now rows.now values.now × (shape.n ≤ length fit.old) }
-    ensures { let X = def.csc shape.n shape.p starts.now rows.now values.now in
-        fit.new ≡ def.moved X feature.0 d fit.old }
+fn csc_update(x: &Tested<'_>, feature: Feature, d: f64, fit: &mut [f64])
+    requires { (x.now.matrix.shape.layout ≡ Csc) × (feature.0 < x.now.matrix.shape.p) × (x.now.matrix.shape.n ≤ length fit.old) }
+    ensures { fit.new ≡ def.moved (def.of_matrix x.now.matrix) feature.0 d fit.old }
 {
-    let Stored { start, many } = stored_of(starts, feature);
+    let Matrix { rows, values, .. } = x.matrix;
+    let Stored { start, many } = stored_of(x, feature);
     for e in start..start + many {
         let sample = sample_of(rows, e);
         set_reading(fit, sample, reading(fit, sample) + d * values[e]);
@@ -180,42 +160,25 @@ fn csc_update(
 }
 
 // The fit gains d times a column, in either layout.
-pub fn column_update(
-    shape: Shape,
-    starts: &[u32],
-    rows: &[u32],
-    values: &[f64],
-    feature: Feature,
-    d: f64,
-    fit: &mut [f64],
-)
-    requires { (feature.0 < shape.p) × Whole shape starts.now rows.now values.now × (shape.n ≤ length fit.old) }
-    ensures { let X = def.design shape starts.now rows.now values.now in
-        fit.new ≡ def.moved X feature.0 d fit.old }
+pub fn column_update(x: &Tested<'_>, feature: Feature, d: f64, fit: &mut [f64])
+    requires { (feature.0 < x.now.matrix.shape.p) × (x.now.matrix.shape.n ≤ length fit.old) }
+    ensures { fit.new ≡ def.moved (def.of_matrix x.now.matrix) feature.0 d fit.old }
 {
-    match shape.layout {
-        Layout::Dense => dense_update(shape, values, feature, d, fit),
-        Layout::Csc => csc_update(shape, starts, rows, values, feature, d, fit),
+    match x.matrix.shape.layout {
+        Layout::Dense => dense_update(x, feature, d, fit),
+        Layout::Csc => csc_update(x, feature, d, fit),
     }
 }
 
 // ---- whether the fit is finite where a column moved it
 
-fn csc_finite(
-    shape: Shape,
-    starts: &[u32],
-    rows: &[u32],
-    values: &[f64],
-    feature: Feature,
-    fit: &[f64],
-) -> bool
-    requires { (feature.0 < shape.p) × Sound shape.n shape.p starts.now rows.now values.now × (shape.n ≤ length fit.now) }
-    ensures { let X = def.csc shape.n shape.p starts.now rows.now values.now in
-        result ≡ def.finite_at X feature.0 fit.now }
+fn csc_finite(x: &Tested<'_>, feature: Feature, fit: &[f64]) -> bool
+    requires { (x.now.matrix.shape.layout ≡ Csc) × (feature.0 < x.now.matrix.shape.p) × (x.now.matrix.shape.n ≤ length fit.now) }
+    ensures { result ≡ def.finite_at (def.of_matrix x.now.matrix) feature.0 fit.now }
 {
-    let Stored { start, many } = stored_of(starts, feature);
+    let Stored { start, many } = stored_of(x, feature);
     for e in start..start + many {
-        if !is_finite(reading(fit, sample_of(rows, e))) {
+        if !is_finite(reading(fit, sample_of(x.matrix.rows, e))) {
             return false;
         }
     }
@@ -223,21 +186,13 @@ fn csc_finite(
 }
 
 // Whether every fit entry that a column changed is finite, in either layout.
-pub fn column_finite(
-    shape: Shape,
-    starts: &[u32],
-    rows: &[u32],
-    values: &[f64],
-    feature: Feature,
-    fit: &[f64],
-) -> bool
-    requires { (feature.0 < shape.p) × Whole shape starts.now rows.now values.now × (length fit.now ≡ shape.n) }
-    ensures { let X = def.design shape starts.now rows.now values.now in
-        result ≡ def.finite_at X feature.0 fit.now }
+pub fn column_finite(x: &Tested<'_>, feature: Feature, fit: &[f64]) -> bool
+    requires { (feature.0 < x.now.matrix.shape.p) × (length fit.now ≡ x.now.matrix.shape.n) }
+    ensures { result ≡ def.finite_at (def.of_matrix x.now.matrix) feature.0 fit.now }
 {
-    match shape.layout {
+    match x.matrix.shape.layout {
         Layout::Dense => all_finite(fit),
-        Layout::Csc => csc_finite(shape, starts, rows, values, feature, fit),
+        Layout::Csc => csc_finite(x, feature, fit),
     }
 }
 
@@ -275,69 +230,34 @@ fn dense_extrapolated_fit(values: &[f64], ws: &[u32], w: &[f64], fit: &mut [f64]
 }
 
 // The fit gains the columns of ws in their order, each times its weight.
-fn csc_update_all(
-    shape: Shape,
-    starts: &[u32],
-    rows: &[u32],
-    values: &[f64],
-    ws: &[u32],
-    w: &[f64],
-    fit: &mut [f64],
-)
-    requires { ((k : ℕ) → k < length ws.now → get_or ws.now k 0 < shape.p)
-        × Sound shape.n shape.p starts.now rows.now values.now × (length w.now ≡ shape.p) × (length fit.old ≡ shape.n) }
-    ensures { let X = def.csc shape.n shape.p starts.now rows.now values.now in
-        fit.new ≡ def.moved_all X ws.now w.now fit.old }
+fn csc_update_all(x: &Tested<'_>, ws: &[u32], w: &[f64], fit: &mut [f64])
+    requires { (x.now.matrix.shape.layout ≡ Csc) × ((k : ℕ) → k < length ws.now → get_or ws.now k 0 < x.now.matrix.shape.p)
+        × (length w.now ≡ x.now.matrix.shape.p) × (length fit.old ≡ x.now.matrix.shape.n) }
+    ensures { fit.new ≡ def.moved_all (def.of_matrix x.now.matrix) ws.now w.now fit.old }
 {
     for j in ws {
         let feature = Feature(*j as usize);
-        csc_update(
-            shape,
-            starts,
-            rows,
-            values,
-            feature,
-            weight(w, feature),
-            fit,
-        );
+        csc_update(x, feature, weight(w, feature), fit);
     }
 }
 
-fn csc_extrapolated_fit(
-    shape: Shape,
-    starts: &[u32],
-    rows: &[u32],
-    values: &[f64],
-    ws: &[u32],
-    w: &[f64],
-    fit: &mut [f64],
-)
-    requires { ((k : ℕ) → k < length ws.now → get_or ws.now k 0 < shape.p)
-        × Sound shape.n shape.p starts.now rows.now values.now × (length w.now ≡ shape.p) × (length fit.old ≡ shape.n) }
-    ensures { let X = def.csc shape.n shape.p starts.now rows.now values.now in
-        fit.new ≡ def.extrapolated X ws.now w.now }
+fn csc_extrapolated_fit(x: &Tested<'_>, ws: &[u32], w: &[f64], fit: &mut [f64])
+    requires { (x.now.matrix.shape.layout ≡ Csc) × ((k : ℕ) → k < length ws.now → get_or ws.now k 0 < x.now.matrix.shape.p)
+        × (length w.now ≡ x.now.matrix.shape.p) × (length fit.old ≡ x.now.matrix.shape.n) }
+    ensures { fit.new ≡ def.extrapolated (def.of_matrix x.now.matrix) ws.now w.now }
 {
     clear(fit);
-    csc_update_all(shape, starts, rows, values, ws, w, fit);
+    csc_update_all(x, ws, w, fit);
 }
 
 // The fit of the p weights w at the features ws, all others counting as zero, into n places.
-pub fn extrapolated_fit(
-    shape: Shape,
-    starts: &[u32],
-    rows: &[u32],
-    values: &[f64],
-    ws: &[u32],
-    w: &[f64],
-    fit: &mut [f64],
-)
-    requires { ((k : ℕ) → k < length ws.now → get_or ws.now k 0 < shape.p) × Whole shape starts.now rows.now values.now
-        × (length w.now ≡ shape.p) × (length fit.old ≡ shape.n) }
-    ensures { let X = def.design shape starts.now rows.now values.now in
-        fit.new ≡ def.extrapolated X ws.now w.now }
+pub fn extrapolated_fit(x: &Tested<'_>, ws: &[u32], w: &[f64], fit: &mut [f64])
+    requires { ((k : ℕ) → k < length ws.now → get_or ws.now k 0 < x.now.matrix.shape.p) × (length w.now ≡ x.now.matrix.shape.p)
+        × (length fit.old ≡ x.now.matrix.shape.n) }
+    ensures { fit.new ≡ def.extrapolated (def.of_matrix x.now.matrix) ws.now w.now }
 {
-    match shape.layout {
-        Layout::Dense => dense_extrapolated_fit(values, ws, w, fit),
-        Layout::Csc => csc_extrapolated_fit(shape, starts, rows, values, ws, w, fit),
+    match x.matrix.shape.layout {
+        Layout::Dense => dense_extrapolated_fit(x.matrix.values, ws, w, fit),
+        Layout::Csc => csc_extrapolated_fit(x, ws, w, fit),
     }
 }

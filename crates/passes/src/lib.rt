@@ -1,4 +1,4 @@
-// Inner functions that pass over all columns of a design. The caller has tested the design. A dense design is passed row by row, with a
+// Inner functions that pass over all columns of a design. The design is a tested one. A dense design is passed row by row, with a
 // running sum for each feature: each column still adds its samples upward, so the bits are those of the column by itself.
 #![tactic(auto)]
 
@@ -6,9 +6,10 @@ ghost use Rattle.std.specs.Prelude.{◌≡◌, ◌+◌, ◌*◌, ◌<◌, ◌≤
 ghost use Rattle.doubles.specs.Num as num;
 ghost use Rattle.doubles.specs.Steps.{tab, largest_from};
 ghost use Rattle.designs.specs.Design as def;
-ghost use Rattle.designs.specs.Inner.Sound.{Sound, Whole};
+ghost use Rattle.designs.specs.declared.Layout.TheVariants.{Csc};
 
 use columns::{Stored, clear, column_dot, stored_of};
+use designs::tested::Tested;
 use designs::{Feature, Layout, Shape};
 use doubles::{abs, larger};
 
@@ -36,32 +37,23 @@ fn dense_dots(n: usize, values: &[f64], v: &[f64], buf: &mut [f64])
 }
 
 // Column by column, which suits a layout that stores columns.
-fn dots_by_column(
-    shape: Shape,
-    starts: &[u32],
-    rows: &[u32],
-    values: &[f64],
-    v: &[f64],
-    buf: &mut [f64],
-)
-    requires { (length buf.old ≡ shape.p) × Whole shape starts.now rows.now values.now × (shape.n ≤ length v.now) }
-    ensures { let X = def.design shape starts.now rows.now values.now in
-        buf.new ≡ tab (λ j. def.dot X j v.now) (length buf.old) }
+fn dots_by_column(x: &Tested<'_>, v: &[f64], buf: &mut [f64])
+    requires { (length buf.old ≡ x.now.matrix.shape.p) × (x.now.matrix.shape.n ≤ length v.now) }
+    ensures { buf.new ≡ tab (λ j. def.dot (def.of_matrix x.now.matrix) j v.now) (length buf.old) }
 {
     for (j, product) in buf.iter_mut().enumerate() {
-        *product = column_dot(shape, starts, rows, values, Feature(j), v);
+        *product = column_dot(x, Feature(j), v);
     }
 }
 
 // The products of v and all columns into p places; of the targets, X'y.
-fn all_dots(shape: Shape, starts: &[u32], rows: &[u32], values: &[f64], v: &[f64], buf: &mut [f64])
-    requires { (length buf.old ≡ shape.p) × Whole shape starts.now rows.now values.now × (shape.n ≤ length v.now) }
-    ensures { let X = def.design shape starts.now rows.now values.now in
-        buf.new ≡ def.dots X v.now }
+fn all_dots(x: &Tested<'_>, v: &[f64], buf: &mut [f64])
+    requires { (length buf.old ≡ x.now.matrix.shape.p) × (x.now.matrix.shape.n ≤ length v.now) }
+    ensures { buf.new ≡ def.dots (def.of_matrix x.now.matrix) v.now }
 {
-    match shape.layout {
-        Layout::Dense => dense_dots(shape.n, values, v, buf),
-        Layout::Csc => dots_by_column(shape, starts, rows, values, v, buf),
+    match x.matrix.shape.layout {
+        Layout::Dense => dense_dots(x.matrix.shape.n, x.matrix.values, v, buf),
+        Layout::Csc => dots_by_column(x, v, buf),
     }
 }
 
@@ -87,22 +79,15 @@ fn finish(n: usize, prepared: &[f64], from: usize, buf: &mut [f64])
 }
 
 // The gradients of all features at a fit into p places.
-pub fn all_gradients(
-    shape: Shape,
-    starts: &[u32],
-    rows: &[u32],
-    values: &[f64],
-    prepared: &[f64],
-    fit: &[f64],
-    grad: &mut [f64],
-)
-    requires { (shape.n ≤ 65536) × (length grad.old ≡ shape.p) × Whole shape starts.now rows.now values.now
-        × (shape.n ≤ length fit.now) × (shape.p + shape.p ≤ length prepared.now) }
-    ensures { let X = def.design shape starts.now rows.now values.now in
-        grad.new ≡ def.full_gradient X fit.now (λ j. num.at prepared.now (shape.p + j)) }
+pub fn all_gradients(x: &Tested<'_>, prepared: &[f64], fit: &[f64], grad: &mut [f64])
+    requires { let p = x.now.matrix.shape.p in
+        (length grad.old ≡ p) × (x.now.matrix.shape.n ≤ length fit.now) × (p + p ≤ length prepared.now) }
+    ensures { let X = def.of_matrix x.now.matrix in
+        grad.new ≡ def.full_gradient X fit.now (λ j. num.at prepared.now (x.now.matrix.shape.p + j)) }
 {
-    all_dots(shape, starts, rows, values, fit, grad);
-    finish(shape.n, prepared, shape.p, grad);
+    let Shape { n, p, .. } = x.matrix.shape;
+    all_dots(x, fit, grad);
+    finish(n, prepared, p, grad);
 }
 
 // ---- constants
@@ -130,37 +115,34 @@ fn dense_squares(n: usize, values: &[f64], buf: &mut [f64])
 }
 
 // The sum of the squares of a sparse column.
-fn csc_square(shape: Shape, starts: &[u32], rows: &[u32], values: &[f64], feature: Feature) -> f64
-    requires { (feature.0 < shape.p) × Sound shape.n shape.p starts.now rows.now values.now }
-    ensures { let X = def.csc shape.n shape.p starts.now rows.now values.now in
-        result ≡ def.squares X feature.0 }
+fn csc_square(x: &Tested<'_>, feature: Feature) -> f64
+    requires { (x.now.matrix.shape.layout ≡ Csc) × (feature.0 < x.now.matrix.shape.p) }
+    ensures { result ≡ def.squares (def.of_matrix x.now.matrix) feature.0 }
 {
-    let Stored { start, many } = stored_of(starts, feature);
+    let Stored { start, many } = stored_of(x, feature);
     let mut s = 0.0;
-    for x in &values[start..start + many] {
-        s += *x * *x;
+    for value in &x.matrix.values[start..start + many] {
+        s += *value * *value;
     }
     s
 }
 
-fn csc_squares(shape: Shape, starts: &[u32], rows: &[u32], values: &[f64], buf: &mut [f64])
-    requires { (length buf.old ≡ shape.p) × Sound shape.n shape.p starts.now rows.now values.now }
-    ensures { let X = def.csc shape.n shape.p starts.now rows.now values.now in
-        buf.new ≡ tab (def.squares X) (length buf.old) }
+fn csc_squares(x: &Tested<'_>, buf: &mut [f64])
+    requires { (x.now.matrix.shape.layout ≡ Csc) × (length buf.old ≡ x.now.matrix.shape.p) }
+    ensures { buf.new ≡ tab (def.squares (def.of_matrix x.now.matrix)) (length buf.old) }
 {
     for (j, square) in buf.iter_mut().enumerate() {
-        *square = csc_square(shape, starts, rows, values, Feature(j));
+        *square = csc_square(x, Feature(j));
     }
 }
 
-fn all_squares(shape: Shape, starts: &[u32], rows: &[u32], values: &[f64], buf: &mut [f64])
-    requires { (length buf.old ≡ shape.p) × Whole shape starts.now rows.now values.now }
-    ensures { let X = def.design shape starts.now rows.now values.now in
-        buf.new ≡ tab (def.squares X) shape.p }
+fn all_squares(x: &Tested<'_>, buf: &mut [f64])
+    requires { length buf.old ≡ x.now.matrix.shape.p }
+    ensures { buf.new ≡ tab (def.squares (def.of_matrix x.now.matrix)) x.now.matrix.shape.p }
 {
-    match shape.layout {
-        Layout::Dense => dense_squares(shape.n, values, buf),
-        Layout::Csc => csc_squares(shape, starts, rows, values, buf),
+    match x.matrix.shape.layout {
+        Layout::Dense => dense_squares(x.matrix.shape.n, x.matrix.values, buf),
+        Layout::Csc => csc_squares(x, buf),
     }
 }
 
@@ -176,32 +158,22 @@ fn divide(n: usize, buf: &mut [f64])
 }
 
 // The Lipschitz constants of all columns into p places.
-fn constants(shape: Shape, starts: &[u32], rows: &[u32], values: &[f64], buf: &mut [f64])
-    requires { (shape.n ≤ 65536) × (length buf.old ≡ shape.p) × Whole shape starts.now rows.now values.now }
-    ensures { let X = def.design shape starts.now rows.now values.now in
-        buf.new ≡ tab (def.lipschitz X) shape.p }
+fn constants(x: &Tested<'_>, buf: &mut [f64])
+    requires { length buf.old ≡ x.now.matrix.shape.p }
+    ensures { buf.new ≡ tab (def.lipschitz (def.of_matrix x.now.matrix)) x.now.matrix.shape.p }
 {
-    all_squares(shape, starts, rows, values, buf);
-    divide(shape.n, buf);
+    all_squares(x, buf);
+    divide(x.matrix.shape.n, buf);
 }
 
 // The constants of all columns, then X'y, into 2p places.
-pub fn prepare(
-    shape: Shape,
-    starts: &[u32],
-    rows: &[u32],
-    values: &[f64],
-    y: &[f64],
-    buf: &mut [f64],
-)
-    requires { (shape.n ≤ 65536) × (length buf.old ≡ shape.p + shape.p) × Whole shape starts.now rows.now values.now
-        × (shape.n ≤ length y.now) }
-    ensures { let X = def.design shape starts.now rows.now values.now in
-        buf.new ≡ def.prepared X y.now }
+pub fn prepare(x: &Tested<'_>, y: &[f64], buf: &mut [f64])
+    requires { (length buf.old ≡ x.now.matrix.shape.p + x.now.matrix.shape.p) × (x.now.matrix.shape.n ≤ length y.now) }
+    ensures { buf.new ≡ def.prepared (def.of_matrix x.now.matrix) y.now }
 {
-    let p = shape.p;
-    constants(shape, starts, rows, values, &mut buf[..p]);
-    all_dots(shape, starts, rows, values, y, &mut buf[p..]);
+    let p = x.matrix.shape.p;
+    constants(x, &mut buf[..p]);
+    all_dots(x, y, &mut buf[p..]);
 }
 
 // The largest |x|, from 0; a NaN stays.
@@ -216,18 +188,11 @@ fn largest_abs(xs: &[f64]) -> f64
 }
 
 // X'y into p places, and the largest of it over n.
-pub fn alpha_max(
-    shape: Shape,
-    starts: &[u32],
-    rows: &[u32],
-    values: &[f64],
-    y: &[f64],
-    xty: &mut [f64],
-) -> f64
-    requires { (shape.n ≤ 65536) × (length xty.old ≡ shape.p) × Whole shape starts.now rows.now values.now × (shape.n ≤ length y.now) }
-    ensures { let X = def.design shape starts.now rows.now values.now in
+pub fn alpha_max(x: &Tested<'_>, y: &[f64], xty: &mut [f64]) -> f64
+    requires { (length xty.old ≡ x.now.matrix.shape.p) × (x.now.matrix.shape.n ≤ length y.now) }
+    ensures { let X = def.of_matrix x.now.matrix in
         (result ≡ def.alpha_max X y.now) × (xty.new ≡ def.dots X y.now) }
 {
-    all_dots(shape, starts, rows, values, y, xty);
-    largest_abs(xty) / (shape.n as f64)
+    all_dots(x, y, xty);
+    largest_abs(xty) / (x.matrix.shape.n as f64)
 }

@@ -48,13 +48,9 @@ pub by_rows : (n p : ℕ) (xs : List Float) (ws : List ℕ) (w : List Float)
 unfolding extrapolated moved_all row_fit dense
 by_rows n p xs ws w = prefix n p xs ws w (length ws)
 
--- ---- a dense design by the lengths of its buffers
-module _ {m n q p : ℕ} (hn : m ≡ n) (hp : q ≡ p) where
-  pub dense-sized : (xs : List Float) → dense m q xs ≡ dense n p xs
-  dense-sized xs = rw (hn, hp)
-
-  pub room-sized : (len : ℕ) → n * p ≤ len → m * q ≤ len
-  room-sized len h = rw (hn, hp) h
+-- a dense design by the lengths of its buffers
+pub dense-sized : {m n q p : ℕ} → m ≡ n → q ≡ p → (xs : List Float) → dense m q xs ≡ dense n p xs
+dense-sized hn hp xs = rw (hn, hp)
 
 -- the fit of a list of features, from a list of zeros
 pub from-zeros : (X : Design) (m : ℕ) (ws : List ℕ) (w a r : List Float) → m ≡ X.n → a ≡ tab (λ i. #0) m → r ≡ moved_all X ws w a → r ≡ extrapolated X ws w

@@ -7,4 +7,4 @@ use Rattle.doubles.specs.Steps.{upward}
 use Rattle.columns.proofs.csc_finite.Given as goal
 
 abbrev pub invariant-loop-e : goal.invariant-loop-e
-invariant-loop-e l = true ≡ upward (λ e b. b and finite (at l.fit (get_or l.rows e 0))) l.start l.e true
+invariant-loop-e l = true ≡ upward (λ e b. b and finite (at l.fit (get_or l.x.matrix.rows.now e 0))) l.start l.e true

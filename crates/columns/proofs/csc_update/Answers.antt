@@ -3,6 +3,7 @@
 use mathlib.Core.Path.{◌∙◌}
 use Rattle.doubles.proofs.Laws.Steps.{upward-none, upward-turn, upward-end}
 use Rattle.designs.specs.Design.{moved, csc}
+use Rattle.designs.proofs.Laws.Layouts.{as_csc}
 use Rattle.columns.proofs.csc_update.Goals as goal
 
 pub loop-e-init : goal.loop-e-init
@@ -17,4 +18,4 @@ pub returns : goal.returns
 unfolding moved csc
 returns c =
     let stored = c.stored_of-start.ensures in
-    rw (← stored.1, ← stored.0) (upward-end _ _ _ _ _ _ c.loop-e.invariant c.loop-e.auto.e-end c.loop-e-test.false)
+    rw (as_csc _ _ _ _ _ _ c.requires.0, ← stored.1, ← stored.0) (upward-end _ _ _ _ _ _ c.loop-e.invariant c.loop-e.auto.e-end c.loop-e-test.false)

@@ -3,9 +3,9 @@ use mathlib.Core.Path.{◌≡◌}
 use lib.ListN.{get_or}
 use Rattle.doubles.specs.Num.{at}
 use Rattle.doubles.specs.Steps.{steps}
-use Rattle.designs.specs.Design.{csc, moved}
+use Rattle.designs.specs.Design.{of_matrix, moved}
 use Rattle.columns.proofs.csc_update_all.Given as goal
 
 abbrev pub invariant-loop-j : goal.invariant-loop-j
 invariant-loop-j l =
-    l.fit ≡ steps (λ i. moved (csc l.shape.n l.shape.p l.starts l.rows l.values) (get_or l.ws i 0) (at l.w (get_or l.ws i 0))) l.j-index l.initial.fit
+    l.fit ≡ steps (λ i. moved (of_matrix l.x.matrix) (get_or l.ws i 0) (at l.w (get_or l.ws i 0))) l.j-index l.initial.fit

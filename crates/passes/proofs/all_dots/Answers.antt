@@ -1,13 +1,9 @@
 -- `all_dots` goes by the layout. Assumes nothing.
 use mathlib.Core.Path.{refl}
-use Rattle.designs.proofs.Laws.Layouts.{held_dense, as_dense, samples, features}
-use Rattle.columns.proofs.Laws.ByRows.{dense-sized, room-sized}
+use Rattle.designs.proofs.Laws.Layouts.{as_dense, samples, features}
+use Rattle.columns.proofs.Laws.ByRows.{dense-sized}
 use Rattle.passes.proofs.Laws.Rows.{as_dots}
 use Rattle.passes.proofs.all_dots.Goals as goal
-
-pub dense_dots-requires : goal.dense_dots-requires
-dense_dots-requires c =
-    (room-sized refl c.requires.0 _ (held_dense _ _ _ _ _ _ c.in-Dense.is c.requires.1), c.requires.2)
 
 pub returns-in-Dense : goal.returns-in-Dense
 returns-in-Dense c =

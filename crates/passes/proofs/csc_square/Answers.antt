@@ -10,7 +10,7 @@ use Rattle.doubles.specs.Num.{◌⊕◌, ◌⊗◌, #0, at}
 use Rattle.doubles.specs.Steps.{sum}
 use Rattle.doubles.proofs.Laws.Steps.{steps-none, steps-more, steps_all, steps-same}
 use Rattle.designs.specs.Design.{squares, csc}
-use Rattle.designs.proofs.Laws.Layouts.{column-end}
+use Rattle.designs.proofs.Laws.Layouts.{column-end, as_csc}
 use Rattle.passes.proofs.csc_square.Goals as goal
 
 -- the squares of a part of a list are those of the list from there on
@@ -24,16 +24,16 @@ part-squares l a m i s h e p q =
     let hi : m ≤ i = omega arith in
     steps_all _ _ _ _ _ e lo hi ∙ steps-same _ _ m #0 (λ k t b. ap (λ (x : Float). b ⊕ x ⊗ x) (here k t))
 
-pub loop-x-init : goal.loop-x-init
-loop-x-init c = steps-none _ _
+pub loop-value-init : goal.loop-value-init
+loop-value-init c = steps-none _ _
 
-pub loop-x-preserved : goal.loop-x-preserved
-loop-x-preserved c = steps-more _ _ _ _ c.loop-x.invariant
+pub loop-value-preserved : goal.loop-value-preserved
+loop-value-preserved c = steps-more _ _ _ _ c.loop-value.invariant
 
 pub returns : goal.returns
 unfolding squares csc
 returns c =
     let stored = c.stored_of-start.ensures in
-    let end : c.stored_of-start.result.start + c.stored_of-start.result.many ≤ length c.args.values.now =
-    rw (stored.0, stored.1) (column-end c.requires.1 _ c.requires.0) in
-    rw (← stored.1, ← stored.0) (part-squares _ _ _ _ _ end c.loop-x.invariant c.loop-x.auto.x-index-end c.loop-x-test.false)
+    let end : c.stored_of-start.result.start + c.stored_of-start.result.many ≤ length c.args.x.now.matrix.values.now =
+    rw (stored.0, stored.1) (column-end (c.args.x.now.csc c.requires.0) _ c.requires.1) in
+    rw (as_csc _ _ _ _ _ _ c.requires.0, ← stored.1, ← stored.0) (part-squares _ _ _ _ _ end c.loop-value.invariant c.loop-value.auto.value-index-end c.loop-value-test.false)

@@ -4,5 +4,5 @@ use Rattle.doubles.specs.Num.{◌⊗◌, at}
 use Rattle.doubles.specs.Steps.{sum as total}
 use Rattle.passes.proofs.csc_square.Given as goal
 
-abbrev pub invariant-loop-x : goal.invariant-loop-x
-invariant-loop-x l = l.s ≡ total (λ k. at l.x-items k ⊗ at l.x-items k) l.x-index
+abbrev pub invariant-loop-value : goal.invariant-loop-value
+invariant-loop-value l = l.s ≡ total (λ k. at l.value-items k ⊗ at l.value-items k) l.value-index

@@ -3,8 +3,8 @@ use mathlib.Core.Path.{◌≡◌}
 use mathlib.Core.List.{◌++◌}
 use lib.ListN.{drop}
 use Rattle.doubles.specs.Steps.{tab}
-use Rattle.designs.specs.Design.{csc, squares}
+use Rattle.designs.specs.Design.{of_matrix, squares}
 use Rattle.passes.proofs.csc_squares.Given as goal
 
 abbrev pub invariant-loop-j : goal.invariant-loop-j
-invariant-loop-j l = l.buf ≡ tab (squares (csc l.shape.n l.shape.p l.starts l.rows l.values)) l.j ++ drop l.j l.initial.buf
+invariant-loop-j l = l.buf ≡ tab (squares (of_matrix l.x.matrix)) l.j ++ drop l.j l.initial.buf
