@@ -1,22 +1,22 @@
 // Inner functions of the extrapolation: the candidate, and whether it is taken.
 #![tactic(auto)]
 
-ghost use Rattle.std.specs.Prelude.{◌≡◌, ℕ, suc, ◌+◌, ◌*◌, ◌<◌, ◌≤◌, List, length, get_or};
+ghost use Rattle.std.specs.Prelude.{◌≡◌, true, ℕ, suc, ◌*◌, ◌<◌, ◌≤◌, length, get_or};
 ghost use Rattle.std.specs.Float.Ieee.{lt};
 ghost use Rattle.doubles.specs.Num as num;
 ghost use Rattle.doubles.specs.Steps.{sum};
 ghost use Rattle.doubles.specs.Buffer.{put};
 ghost use Rattle.designs.specs.Design as def;
-ghost use Rattle.designs.specs.Given.{given};
 ghost use Rattle.definition.specs.Extrapolation as ext;
+ghost use Rattle.definition.specs.Inner.Problem.{task_in};
 ghost use Rattle.extrapolation.specs.Inner.Places as places;
 
-use columns::{all_finite, clear, extrapolated_fit, feature_of, set_weight};
-use designs::Shape;
-use elimination::inner::{eliminate, is_regular, read_off};
+use columns::{all_finite, clear, extrapolated_fit, set_weight};
+use definition::problem::Problem;
+use designs::{Feature, Shape};
+use elimination::inner::System;
 use history::{Kept, combined, keep, system};
 use penalties::inner::value as penalty_value;
-use penalties::separable::Penalty;
 use quadratic::value as datafit_value;
 
 // ---- the candidate
@@ -52,28 +52,27 @@ fn write_candidate(kept: &[f64], shape: Kept, c: [f64; 10], ws: &[u32], w: &mut 
     ensures { w.new ≡ ext.candidate shape.depth shape.p ws.now kept.now c }
 {
     clear(w);
-    for i in 0..ws.len() {
-        let feature = feature_of(ws, i);
-        set_weight(w, feature, combined(kept, shape, c, i));
+    for (i, j) in ws.iter().enumerate() {
+        set_weight(w, Feature(*j as usize), combined(kept, shape, c, i));
     }
 }
 
 // ---- which point is better
 
-fn objective(y: &[f64], penalty: Penalty, w: &[f64], fit: &[f64]) -> f64
-    requires { (length y.now ≤ 65536) × (length y.now ≤ length fit.now) }
-    ensures { result ≡ ext.objective_of penalty y.now w.now fit.now }
+fn objective(problem: &Problem<'_>, w: &[f64], fit: &[f64]) -> f64
+    requires { length fit.now ≡ problem.now.x.matrix.shape.n }
+    ensures { result ≡ ext.objective_of problem.now.settings.penalty problem.now.y.now w.now fit.now }
 {
-    datafit_value(y, fit) + penalty_value(penalty, w)
+    datafit_value(problem.y, fit) + penalty_value(problem.settings.penalty, w)
 }
 
 // Strictly smaller objective, and finite.
-fn is_better(y: &[f64], penalty: Penalty, w: &[f64], fit: &[f64], before: f64) -> bool
-    requires { (length y.now ≤ 65536) × (length y.now ≤ length fit.now) }
-    ensures { let smaller = lt (ext.objective_of penalty y.now w.now fit.now) before in
+fn is_better(problem: &Problem<'_>, w: &[f64], fit: &[f64], before: f64) -> bool
+    requires { length fit.now ≡ problem.now.x.matrix.shape.n }
+    ensures { let smaller = lt (ext.objective_of problem.now.settings.penalty problem.now.y.now w.now fit.now) before in
         result ≡ num.◌and◌ smaller (num.◌and◌ (ext.all_finite w.now) (ext.all_finite fit.now)) }
 {
-    objective(y, penalty, w, fit) < before && all_finite(w) && all_finite(fit)
+    objective(problem, w, fit) < before && all_finite(w) && all_finite(fit)
 }
 
 // ---- the step
@@ -89,17 +88,18 @@ pub struct Parts {
     pub end: usize,
 }
 
-fn lay_out(n: usize, shape: Kept) -> Parts
-    requires { (shape.depth ≤ 10) × (shape.p ≤ 8192) × (n ≤ 65536) }
-    ensures { (result.kept ≡ shape.p) × (result.until ≡ result.kept + suc shape.depth * shape.p) × (result.old ≡ (2 * shape.depth + 2) * shape.p)
-        × (result.fit ≡ result.old + shape.p) × (result.end ≡ result.fit + n) }
+fn lay_out(problem: &Problem<'_>) -> Parts
+    requires { problem.now.settings.extrapolate ≡ true }
+    ensures { places.Laid problem.now result.kept result.until result.old result.fit result.end }
 {
-    let kept = shape.p;
-    let old = (2 * shape.depth + 2) * shape.p;
-    let fit = old + shape.p;
+    let Shape { n, p, .. } = problem.x.matrix.shape;
+    let depth = problem.settings.depth;
+    let kept = p;
+    let old = (2 * depth + 2) * p;
+    let fit = old + p;
     Parts {
         kept,
-        until: kept + (shape.depth + 1) * shape.p,
+        until: kept + (depth + 1) * p,
         old,
         fit,
         end: fit + n,
@@ -108,55 +108,46 @@ fn lay_out(n: usize, shape: Kept) -> Parts
 
 // The weights are put by, the candidate takes their place, and its fit is computed.
 fn make_candidate(
-    shape: Shape,
-    starts: &[u32],
-    rows: &[u32],
-    values: &[f64],
-    depth: usize,
+    problem: &Problem<'_>,
     c: [f64; 10],
     ws: &[u32],
     w: &mut [f64],
     scratch: &mut [f64],
 )
-    requires { places.Sized shape starts.now rows.now values.now depth ws.now w.old scratch.old }
-    ensures { let X = def.design shape starts.now rows.now values.now in
-        let new = def.extrapolated X ws.now w.new in
-        (w.new ≡ ext.candidate depth shape.p ws.now (places.kept_in shape depth scratch.old) c)
-        × (scratch.new ≡ put (put scratch.old (places.old_at shape depth) w.old) (places.fit_at shape depth) new)
-        × (length new ≡ shape.n) }
+    requires { places.Sized problem.now ws.now w.old scratch.old }
+    ensures { let x = problem.now.x.matrix in
+        let depth = problem.now.settings.depth in
+        let new = def.extrapolated (def.of_matrix x) ws.now w.new in
+        (w.new ≡ ext.candidate depth x.shape.p ws.now (places.kept_in x.shape depth scratch.old) c)
+        × (scratch.new ≡ put (put scratch.old (places.old_at x.shape depth) w.old) (places.fit_at x.shape depth) new)
+        × (length new ≡ x.shape.n) }
 {
-    let kept = Kept { depth, p: shape.p };
-    let at = lay_out(shape.n, kept);
+    let kept = Kept {
+        depth: problem.settings.depth,
+        p: problem.x.matrix.shape.p,
+    };
+    let at = lay_out(problem);
     scratch[at.old..at.fit].copy_from_slice(w);
     write_candidate(&scratch[at.kept..at.until], kept, c, ws, w);
-    extrapolated_fit(
-        shape,
-        starts,
-        rows,
-        values,
-        ws,
-        w,
-        &mut scratch[at.fit..at.end],
-    );
+    extrapolated_fit(&problem.x, ws, w, &mut scratch[at.fit..at.end]);
 }
 
 // The candidate keeps its place and its fit replaces the fit if it is better, else the weights come back; the number accepted, 0 or 1.
 fn choose(
-    y: &[f64],
-    penalty: Penalty,
+    problem: &Problem<'_>,
     before: f64,
     old: &[f64],
     new: &[f64],
     w: &mut [f64],
     fit: &mut [f64],
 ) -> usize
-    requires { (length y.now ≤ 65536) × (length new.now ≡ length y.now) × (length fit.old ≡ length new.now)
+    requires { (length new.now ≡ problem.now.x.matrix.shape.n) × (length fit.old ≡ length new.now)
         × (length w.old ≡ length old.now) }
     ensures { let candidate = places.point_with w.old new.now in
         places.tried_of result w.new fit.new
-        ≡ places.chosen_by penalty y.now before candidate (places.point_with old.now fit.old) }
+        ≡ places.chosen_by problem.now.settings.penalty problem.now.y.now before candidate (places.point_with old.now fit.old) }
 {
-    if is_better(y, penalty, w, new, before) {
+    if is_better(problem, w, new, before) {
         fit.copy_from_slice(new);
         return 1;
     }
@@ -166,35 +157,26 @@ fn choose(
 
 // The candidate of a solution z of the system is tried; the number accepted.
 fn try_candidate(
-    shape: Shape,
-    starts: &[u32],
-    rows: &[u32],
-    values: &[f64],
-    y: &[f64],
-    penalty: Penalty,
-    depth: usize,
+    problem: &Problem<'_>,
     z: [f64; 10],
     ws: &[u32],
     w: &mut [f64],
     fit: &mut [f64],
     scratch: &mut [f64],
 ) -> usize
-    requires { places.StepReady (given shape starts.now rows.now values.now y.now) depth ws.now w.old fit.old scratch.old }
-    ensures { let g = given shape starts.now rows.now values.now y.now in
-        let T = places.task_with g penalty in
-        let kept = places.kept_in shape depth scratch.old in
+    requires { places.StepReady problem.now ws.now w.old fit.old scratch.old }
+    ensures { let depth = problem.now.settings.depth in
+        let kept = places.kept_in problem.now.x.matrix.shape depth scratch.old in
         let before = places.point_with w.old fit.old in
-        ((q : List _) → places.tried_of result w.new fit.new ≡ places.tried_from (T q) y.now depth ws.now kept z before)
-        × (places.kept_in shape depth scratch.new ≡ kept) }
+        (places.tried_of result w.new fit.new ≡ places.tried_from (task_in problem.now) problem.now.y.now depth ws.now kept z before)
+        × (places.kept_in problem.now.x.matrix.shape depth scratch.new ≡ kept) }
 {
-    let kept = Kept { depth, p: shape.p };
-    let at = lay_out(shape.n, kept);
-    let c = coefficients(z, depth);
-    let before = objective(y, penalty, w, fit);
-    make_candidate(shape, starts, rows, values, depth, c, ws, w, scratch);
+    let at = lay_out(problem);
+    let c = coefficients(z, problem.settings.depth);
+    let before = objective(problem, w, fit);
+    make_candidate(problem, c, ws, w, scratch);
     choose(
-        y,
-        penalty,
+        problem,
         before,
         &scratch[at.old..at.fit],
         &scratch[at.fit..at.end],
@@ -205,70 +187,64 @@ fn try_candidate(
 
 // The extrapolation from K+1 kept rows; the number accepted.
 fn extrapolate(
-    shape: Shape,
-    starts: &[u32],
-    rows: &[u32],
-    values: &[f64],
-    y: &[f64],
-    penalty: Penalty,
-    depth: usize,
+    problem: &Problem<'_>,
     ws: &[u32],
     w: &mut [f64],
     fit: &mut [f64],
     scratch: &mut [f64],
 ) -> usize
-    requires { places.StepReady (given shape starts.now rows.now values.now y.now) depth ws.now w.old fit.old scratch.old }
-    ensures { let g = given shape starts.now rows.now values.now y.now in
-        let T = places.task_with g penalty in
-        let kept = places.kept_in shape depth scratch.old in
+    requires { places.StepReady problem.now ws.now w.old fit.old scratch.old }
+    ensures { let depth = problem.now.settings.depth in
+        let kept = places.kept_in problem.now.x.matrix.shape depth scratch.old in
         let before = places.point_with w.old fit.old in
-        ((q : List _) → places.tried_of result w.new fit.new ≡ ext.extrapolate (T q) y.now depth ws.now kept before)
-        × (places.kept_in shape depth scratch.new ≡ kept) }
+        (places.tried_of result w.new fit.new ≡ ext.extrapolate (task_in problem.now) problem.now.y.now depth ws.now kept before)
+        × (places.kept_in problem.now.x.matrix.shape depth scratch.new ≡ kept) }
 {
-    let kept = Kept { depth, p: shape.p };
-    let at = lay_out(shape.n, kept);
-    let m = eliminate(system(&scratch[at.kept..at.until], kept, ws.len()), depth);
-    if !is_regular(m, depth) {
+    let depth = problem.settings.depth;
+    let kept = Kept {
+        depth,
+        p: problem.x.matrix.shape.p,
+    };
+    let at = lay_out(problem);
+    let mut m = System {
+        rows: system(&scratch[at.kept..at.until], kept, ws.len()),
+        size: depth,
+    };
+    m.eliminate();
+    if !m.is_regular() {
         return 0;
     }
-    let z = read_off(m, depth);
-    try_candidate(
-        shape, starts, rows, values, y, penalty, depth, z, ws, w, fit, scratch,
-    )
+    try_candidate(problem, m.solution(), ws, w, fit, scratch)
 }
 
 // After the visits of epoch e: the weights are kept as row e mod (K+1), and where that is the last row, the extrapolation is tried; the number
 // accepted.
 pub fn anderson_accel(
-    shape: Shape,
-    starts: &[u32],
-    rows: &[u32],
-    values: &[f64],
-    y: &[f64],
-    penalty: Penalty,
-    depth: usize,
+    problem: &Problem<'_>,
     e: usize,
     ws: &[u32],
     w: &mut [f64],
     fit: &mut [f64],
     scratch: &mut [f64],
 ) -> usize
-    requires { places.StepReady (given shape starts.now rows.now values.now y.now) depth ws.now w.old fit.old scratch.old }
-    ensures { let g = given shape starts.now rows.now values.now y.now in
-        let T = places.task_with g penalty in
-        let kept = places.kept_then shape depth e ws.now w.old scratch.old in
+    requires { places.StepReady problem.now ws.now w.old fit.old scratch.old }
+    ensures { let depth = problem.now.settings.depth in
+        let kept = places.kept_then problem.now.x.matrix.shape depth e ws.now w.old scratch.old in
         let before = places.point_with w.old fit.old in
-        ((q : List _) → places.tried_of result w.new fit.new ≡ ext.tried (T q) y.now depth e ws.now kept before)
-        × (places.kept_in shape depth scratch.new ≡ kept) }
+        (places.tried_of result w.new fit.new ≡ ext.tried (task_in problem.now) problem.now.y.now depth e ws.now kept before)
+        × (places.kept_in problem.now.x.matrix.shape depth scratch.new ≡ kept) }
 {
+    let depth = problem.settings.depth;
     let row = e % (depth + 1);
-    let kept = Kept { depth, p: shape.p };
-    let at = lay_out(shape.n, kept);
-    keep(ws, w, row * shape.p, &mut scratch[at.kept..at.until]);
+    let at = lay_out(problem);
+    keep(
+        ws,
+        w,
+        row * problem.x.matrix.shape.p,
+        &mut scratch[at.kept..at.until],
+    );
     if row != depth {
         return 0;
     }
-    extrapolate(
-        shape, starts, rows, values, y, penalty, depth, ws, w, fit, scratch,
-    )
+    extrapolate(problem, ws, w, fit, scratch)
 }

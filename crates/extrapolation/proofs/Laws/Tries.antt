@@ -11,12 +11,12 @@ use Rattle.doubles.specs.Num.{#0}
 use Rattle.doubles.specs.Steps.{steps, tab}
 use Rattle.doubles.proofs.Laws.Steps.{steps_all}
 use Rattle.elimination.specs.Elimination.{Matrix, eliminated, regular, read_off}
-use Rattle.designs.specs.Given.{Given}
 use Rattle.designs.specs.Design.{extrapolated}
 use Rattle.definition.specs.Epoch.{Task, Point}
 use Rattle.definition.specs.Extrapolation as ext
 use Rattle.definition.specs.Extrapolation.{Tried, keeps, combined, candidate, coefficients, system, objective_of, better, chosen, candidate_of}
 use Rattle.definition.specs.Extrapolation.{extrapolate, from_system, due, tried}
+use Rattle.definition.specs.declared.problem.Problem.{Problem}
 use Rattle.extrapolation.specs.Inner.Places.{point_with, chosen_by, tried_from, StepReady}
 
 -- all places of the working set written, over zeros
@@ -61,20 +61,14 @@ module _ (T : Task) (y : List Float) (K e : ℕ) (ws : List ℕ) (kept : List Fl
   is-due h r q = rw (eq-eqb (e % suc K) K (rw add-one at h)) q
 
 -- a scratch in which a row was written is as ready
-pub ready_again : {g : Given} {K : ℕ} {ws : List ℕ} {w fit l : List Float} (m : List Float)
-    → StepReady g K ws w fit l → length m ≡ length l → StepReady g K ws w fit m
+pub ready_again : {P : Problem} {ws : List ℕ} {w fit l : List Float} (m : List Float) → StepReady P ws w fit l → length m ≡ length l → StepReady P ws w fit m
 ready_again m r h = record {
   sized = record {
-    whole = r.sized.whole;
-    samples = r.sized.samples;
-    features = r.sized.features;
-    deep = r.sized.deep;
-    shallow = r.sized.shallow;
+    on = r.sized.on;
     weights = r.sized.weights;
     room = h ∙ r.sized.room;
     few = r.sized.few;
     below = r.sized.below;
   };
-  targets = r.targets;
   fits = r.fits;
 }

@@ -4,11 +4,12 @@ use mathlib.Core.List.{List}
 use lib.Ieee.{Float}
 use native.Mathlib.Omega.{arith}
 use Rattle.definition.specs.Extrapolation.{kept_now}
+use Rattle.definition.specs.Inner.Problem.{task_in}
 use Rattle.extrapolation.specs.Inner.Places.{kept_in}
 use Rattle.extrapolation.proofs.Laws.Scratch.{row_small, row_room}
 use Rattle.extrapolation.proofs.Laws.Tries.{not_last, ready_again}
 use Prim.Native.Nat.{◌-◌}
-use Rattle.extrapolation.proofs.Laws.Step.{row-left, step-tried}
+use Rattle.extrapolation.proofs.Laws.Step.{at_most, row-left, step-tried}
 use borrow.Rule.Slice.PartMut.{put_mid, same_len_mid}
 use Rattle.extrapolation.proofs.anderson_accel.Goals as goal
 use Rattle.extrapolation.proofs.anderson_accel.Goals.{After-keep}
@@ -20,28 +21,31 @@ scratch c =
     put_mid parts.kept (parts.until - parts.kept) c.args.scratch.now c.keep.new.kept
 
 -- its rows are those of the definition
-row : (c : After-keep) → let a = c.args in
-    kept_in a.shape a.depth (scratch c)
-    ≡ kept_now a.depth a.shape.p a.e a.ws.now a.w.now (kept_in a.shape a.depth a.scratch.now)
-row c =
-    row-left _ _ _ _ _ _ _ _ _ _ _ _ _ c.requires c.lay_out-at.ensures c.keep.auto.kept c.keep.ensures
+row : (c : After-keep) → let a = c.args in let P = a.problem.now in
+    kept_in P.x.matrix.shape P.settings.depth (scratch c)
+    ≡ kept_now P.settings.depth P.x.matrix.shape.p a.e a.ws.now a.w.now (kept_in P.x.matrix.shape P.settings.depth a.scratch.now)
+row c = row-left c.args.problem.now _ _ _ _ _ _ _ _ _ _ _ c.requires c.lay_out-at.ensures c.keep.auto.kept c.keep.ensures
+
+pub overflow_add-row : goal.overflow_add-row
+overflow_add-row c = omega (arith, at_most c.requires.sized)
 
 pub overflow_mul-row : goal.overflow_mul-row
 overflow_mul-row c =
-    let h = row_small c.args.e _ _ c.requires.sized.shallow c.requires.sized.features in
+    let h = row_small c.args.e _ _ (at_most c.requires.sized) c.args.problem.now.x.narrow in
     omega arith
 
 pub keep-requires : goal.keep-requires
 keep-requires c =
-    let a = c.args in
+    let P = c.args.problem.now in
     let sized = c.requires.sized in
     let parts = c.lay_out-at.ensures in (
       λ k h. rw sized.weights (sized.below k h),
-      row_room a.shape a.depth a.scratch.now _ _ a.e parts.0 parts.1 sized.room _ sized.few,
+      row_room P.x.matrix.shape P.settings.depth c.args.scratch.now _ _ c.args.e parts.0 parts.1 sized.room _ sized.few,
     )
 
 pub returns-then-row-depth : goal.returns-then-row-depth
-returns-then-row-depth c = (λ q. not_last _ _ _ _ _ _ _ c.if-row-depth.true, row (goal.at.returns-then-row-depth c).After-keep)
+returns-then-row-depth c =
+    (not_last (task_in c.args.problem.now) _ _ _ _ _ _ c.if-row-depth.true, row (goal.at.returns-then-row-depth c).After-keep)
 
 pub extrapolate-requires : goal.extrapolate-requires
 extrapolate-requires c =
@@ -51,4 +55,4 @@ extrapolate-requires c =
 
 pub returns : goal.returns
 returns c =
-    step-tried _ _ _ _ _ _ _ _ _ _ (row (goal.at.returns c).After-keep) c.if-row-depth.false c.extrapolate.ensures
+    step-tried c.args.problem.now _ _ _ _ _ _ _ (row (goal.at.returns c).After-keep) c.if-row-depth.false c.extrapolate.ensures

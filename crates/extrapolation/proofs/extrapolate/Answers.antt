@@ -1,30 +1,42 @@
 -- `extrapolate`: the system is eliminated; where it is singular nothing is tried, else the candidate of its solution. Assumes nothing.
+use borrow.Author.Rules.{rules}
 use mathlib.Core.Path.{◌≡◌, refl}
 use Prim.Native.Nat.{◌-◌}
 use lib.ListN.{take, drop}
+use Rattle.definition.specs.Inner.Problem.{task_in}
 use Rattle.extrapolation.specs.Inner.Places.{kept_in}
-use Rattle.extrapolation.proofs.Laws.Scratch.{kept_read}
+use Rattle.extrapolation.proofs.Laws.Scratch.{kept_read, kept-long}
+use Rattle.extrapolation.proofs.Laws.Step.{at_least, at_most}
 use Rattle.extrapolation.proofs.Laws.Tries.{from-regular, from_singular}
 use Rattle.extrapolation.proofs.extrapolate.Goals as goal
 use Rattle.extrapolation.proofs.extrapolate.Goals.{After-lay_out-at}
 
-kept : (c : After-lay_out-at) → let a = c.args in
-    take (c.lay_out-at.result.until - c.lay_out-at.result.kept) (drop c.lay_out-at.result.kept a.scratch.now)
-    ≡ kept_in a.shape a.depth a.scratch.now
-kept c = kept_read c.args.shape c.args.depth _ _ _ c.lay_out-at.ensures.0 c.lay_out-at.ensures.1
+kept : (c : After-lay_out-at) → let P = c.args.problem.now in
+    take (c.lay_out-at.result.until - c.lay_out-at.result.kept) (drop c.lay_out-at.result.kept c.args.scratch.now)
+    ≡ kept_in P.x.matrix.shape P.settings.depth c.args.scratch.now
+kept c = let P = c.args.problem.now in kept_read P.x.matrix.shape P.settings.depth _ _ _ c.lay_out-at.ensures.0 c.lay_out-at.ensures.1
+
+pub system-requires : goal.system-requires
+system-requires c =
+    let P = c.args.problem.now in
+    (at_most c.requires.sized, search rules, kept-long P.x.matrix.shape P.settings.depth _ _ _ c.lay_out-at.ensures.1 (search rules))
+
+pub invariant_of-m : goal.invariant_of-m
+invariant_of-m c = record { small = at_most c.requires.sized }
+
+pub eliminate-requires : goal.eliminate-requires
+eliminate-requires c = at_least c.requires.sized
 
 pub returns-then-not-is_regular : goal.returns-then-not-is_regular
 returns-then-not-is_regular c =
-    let rows = kept (goal.at.returns-then-not-is_regular c).After-lay_out-at in (
-      λ q. from_singular _ _ _ _ _ _ _ _ _ _ rows c.system.ensures c.eliminate-m.ensures c.is_regular.ensures c.if-not-is_regular.true,
-      refl,
-    )
+    let rows = kept (goal.at.returns-then-not-is_regular c).After-lay_out-at in
+    let regular = rw c.eliminate.ensures.1 at c.is_regular.ensures in
+    (from_singular (task_in c.args.problem.now) _ _ _ _ _ _ _ _ _ rows c.system.ensures c.eliminate.ensures.0 regular c.if-not-is_regular.true, refl)
 
 pub returns : goal.returns
 returns c =
-    let tried = c.try_candidate.ensures in
-    let rows = kept (goal.at.returns c).After-lay_out-at in (
-      λ q. from-regular _ _ _ _ _ _ _ _ _ _ rows c.system.ensures c.eliminate-m.ensures
-          c.is_regular.ensures c.if-not-is_regular.false _ c.read_off-z.ensures _ (tried.0 q),
-      tried.1,
-    )
+    let rows = kept (goal.at.returns c).After-lay_out-at in
+    let regular = rw c.eliminate.ensures.1 at c.is_regular.ensures in
+    let read = rw c.eliminate.ensures.1 at c.solution.ensures in
+    let by = from-regular (task_in c.args.problem.now) _ _ _ _ _ _ _ _ _ rows c.system.ensures c.eliminate.ensures.0 regular c.if-not-is_regular.false in
+    (by _ read _ c.try_candidate.ensures.0, c.try_candidate.ensures.1)

@@ -1,17 +1,12 @@
 -- Where in the scratch the extrapolation finds its numbers, and what its function asks for.
-use Rattle.std.specs.Prelude.{◌≡◌, List, ℕ, suc, ◌+◌, ◌*◌, ◌≤◌, ◌<◌, length, get_or, take, drop, Float}
+use Rattle.std.specs.Prelude.{◌≡◌, List, ℕ, suc, ◌+◌, ◌*◌, ◌≤◌, ◌<◌, true, length, get_or, take, drop, Float}
 use Rattle.std.specs.Float.Ieee.{lt}
 use Rattle.doubles.specs.Num.{pick, ◌and◌}
 use Rattle.penalties.specs.declared.separable.Penalty.{Penalty}
-use Rattle.designs.specs.Given.{Given}
-use Rattle.designs.specs.Inner.Sound.{Whole}
 use Rattle.designs.specs.declared.Shape.{Shape}
-use Rattle.definition.specs.Epoch.{Task, task, Point}
+use Rattle.definition.specs.Epoch.{Task, Point}
 use Rattle.definition.specs.Extrapolation.{Tried, kept_now, keeps, objective_of, all_finite, chosen, candidate_of}
-
--- the extrapolation never looks at the prepared numbers: what it promises holds for any
-abbrev pub task_with : Given → Penalty → List Float → Task
-task_with g penalty prepared = task g.shape g.starts g.rows g.values penalty prepared
+use Rattle.definition.specs.declared.problem.Problem.{Problem}
 
 -- what is kept: K+1 rows of p places behind the violations
 unfoldable pub kept_in : Shape → ℕ → List Float → List Float
@@ -44,20 +39,22 @@ chosen_by penalty y before new old =
 unfoldable pub tried_from : Task → List Float → ℕ → List ℕ → List Float → List Float → Point → Tried
 tried_from T y K ws kept z s = chosen T y (candidate_of T K ws kept z) s
 
--- a design, a working set and buffers that fit together, and a depth in its range
-pub record Sized (s : Shape) (starts rows : List ℕ) (values : List Float) (K : ℕ) (ws : List ℕ) (w scratch : List Float) : Type 0 where
-  pub whole : Whole s starts rows values
-  pub samples : s.n ≤ 65536
-  pub features : s.p ≤ 8192
-  pub deep : 0 < K
-  pub shallow : K ≤ 10
-  pub weights : length w ≡ s.p
-  pub room : length scratch ≡ (2 * K + 3) * s.p + s.n
-  pub few : length ws ≤ s.p
-  pub below : (k : ℕ) → k < length ws → get_or ws k 0 < s.p
+-- where the parts of a problem's scratch begin
+abbrev pub Laid : Problem → ℕ → ℕ → ℕ → ℕ → ℕ → Type 0
+Laid P kept until old fit end =
+    let s = P.x.matrix.shape in
+    let K = P.settings.depth in
+    (kept ≡ s.p) × (until ≡ kept + suc K * s.p) × (old ≡ (2 * K + 2) * s.p) × (fit ≡ old + s.p) × (end ≡ fit + s.n)
 
--- and the targets and a fit with them
-pub record StepReady (g : Given) (K : ℕ) (ws : List ℕ) (w fit scratch : List Float) : Type 0 where
-  pub sized : Sized g.shape g.starts g.rows g.values K ws w scratch
-  pub targets : length g.targets ≡ g.shape.n
-  pub fits : length fit ≡ g.shape.n
+-- a problem with extrapolation on, a working set of its features, and buffers of its room
+pub record Sized (P : Problem) (ws : List ℕ) (w scratch : List Float) : Type 0 where
+  pub on : P.settings.extrapolate ≡ true
+  pub weights : length w ≡ P.x.matrix.shape.p
+  pub room : length scratch ≡ (2 * P.settings.depth + 3) * P.x.matrix.shape.p + P.x.matrix.shape.n
+  pub few : length ws ≤ P.x.matrix.shape.p
+  pub below : (k : ℕ) → k < length ws → get_or ws k 0 < P.x.matrix.shape.p
+
+-- and a fit with them
+pub record StepReady (P : Problem) (ws : List ℕ) (w fit scratch : List Float) : Type 0 where
+  pub sized : Sized P ws w scratch
+  pub fits : length fit ≡ P.x.matrix.shape.n
