@@ -8,21 +8,24 @@ use mathlib.Core.List.{List}
 use lib.Dec.{eqb}
 use lib.ListN.{length}
 use lib.Ieee.{Float, le, lt}
-use Rattle.doubles.specs.Num.{◌⊗◌, pick, ◌and◌}
+use Rattle.std.specs.Prelude.{Result, Ok, Err}
+use Rattle.doubles.specs.declared.NotFinite.{NotFinite}
+use Rattle.doubles.specs.Num.{◌⊗◌, pick}
 use Rattle.doubles.specs.Steps.{Stage, going, stopped, bad}
 use Rattle.doubles.proofs.Laws.Steps.{picked, not_picked}
 use Rattle.elimination.specs.Elimination.{eliminated, regular, read_off}
-use Rattle.designs.specs.declared.Shape.{Shape}
 use Rattle.definition.specs.Epoch.{Task, Point, known_in, worst_in, visits}
-use Rattle.definition.specs.Extrapolation.{Tried, keeps, better, chosen, candidate_of, system, from_system, extrapolate, due, tried, kept_now}
+use Rattle.definition.specs.Extrapolation.{Tried, keeps, better, chosen, candidate_of, system, from_system, extrapolate, due, tried}
 use Rattle.definition.specs.Run.{Inner, #0·3, accelerated, enough, checked, checks, settled, epoch}
 use Rattle.definition.specs.declared.Settings.{Settings}
-use Rattle.extrapolation.specs.Inner.Places.{kept_in, point_with, tried_of}
-use Rattle.visits.specs.Inner.Reading.{visit_of, measured_in}
+use Rattle.definition.specs.declared.problem.Problem.{Problem}
+use Rattle.definition.specs.Inner.Problem.{task_in}
+use Rattle.extrapolation.specs.Inner.Places.{kept_in, kept_then, point_with, tried_of}
+use Rattle.visits.specs.Inner.Reading.{measured_in}
 use Rattle.epochs.specs.Inner.Reading.{kept_here, inner_of, counts_of}
 use Rattle.epochs.specs.declared.Counts.{Counts}
-use Rattle.epochs.specs.declared.InnerStep.{InnerStep}
-use Rattle.epochs.specs.declared.InnerStep.TheVariants as Inner'
+use Rattle.epochs.specs.declared.Pace.{Pace}
+use Rattle.epochs.specs.declared.Pace.TheVariants.{Going, Stopped}
 
 -- ---- at most one extrapolation is accepted
 module _ (T : Task) (y : List Float) (K : ℕ) (ws : List ℕ) (kept : List Float) (s : Point) where
@@ -47,18 +50,19 @@ module _ (T : Task) (y : List Float) (K : ℕ) (ws : List ℕ) (kept : List Floa
   taken-few e r w fit q = le_trans (le_of_eq (ap (λ (t : Tried). t.taken) q)) (tried-few e)
 
 -- ---- the extrapolation
-module _ (T : Task) (y : List Float) (S : Settings) (ws : List ℕ) (e : ℕ) (c : Counts) (s : Shape) where
-  pub accelerated_on : (w fit w' fit' scratch scratch' : List Float) (r : ℕ) → S.extrapolate ≡ true
-      → tried_of r w' fit' ≡ tried T y S.depth e ws (kept_now S.depth T.p e ws w (kept_in s S.depth scratch)) (point_with w fit)
-      → kept_in s S.depth scratch' ≡ kept_now S.depth T.p e ws w (kept_in s S.depth scratch)
-      → inner_of (record { epochs = c.epochs + 1; extrapolations = c.extrapolations + r }) w' fit' (kept_here s S scratch')
-      ≡ accelerated T y S ws e (inner_of c w fit (kept_here s S scratch)) (point_with w fit)
+module _ (P : Problem) (ws : List ℕ) (e : ℕ) (c : Counts) where
+  pub accelerated_on : (w fit w' fit' scratch scratch' : List Float) (r : ℕ) → P.settings.extrapolate ≡ true
+      → (tried_of r w' fit'
+      ≡ tried (task_in P) P.y.now P.settings.depth e ws (kept_then P.x.matrix.shape P.settings.depth e ws w scratch) (point_with w fit))
+      × (kept_in P.x.matrix.shape P.settings.depth scratch' ≡ kept_then P.x.matrix.shape P.settings.depth e ws w scratch)
+      → inner_of (record { epochs = c.epochs + 1; extrapolations = c.extrapolations + r }) w' fit' (kept_here P scratch')
+      ≡ accelerated (task_in P) P.y.now P.settings ws e (inner_of c w fit (kept_here P scratch)) (point_with w fit)
   unfolding accelerated kept_here
-  accelerated_on w fit w' fit' scratch scratch' r on t k = rw (on, ← t, k)
+  accelerated_on w fit w' fit' scratch scratch' r on t = rw (on, ← t.0, t.1)
 
-  pub accelerated_off : (w fit scratch : List Float) → S.extrapolate ≡ false
-      → inner_of (record { epochs = c.epochs + 1; extrapolations = c.extrapolations }) w fit (kept_here s S scratch)
-      ≡ accelerated T y S ws e (inner_of c w fit (kept_here s S scratch)) (point_with w fit)
+  pub accelerated_off : (w fit scratch : List Float) → P.settings.extrapolate ≡ false
+      → inner_of (record { epochs = c.epochs + 1; extrapolations = c.extrapolations }) w fit (kept_here P scratch)
+      ≡ accelerated (task_in P) P.y.now P.settings ws e (inner_of c w fit (kept_here P scratch)) (point_with w fit)
   unfolding accelerated kept_here
   accelerated_off w fit scratch off = let z : c.extrapolations + 0 ≡ c.extrapolations = omega arith in rw (off, z)
 
@@ -86,11 +90,12 @@ module _ (T : Task) (S : Settings) (ws : List ℕ) (outer : Float) (s : Inner) w
     checked_goes h = rw h at by-enough
 
 -- the check counts nothing
-pub counts-checked : (r : InnerStep) (c a : Counts) → counts_of r a ≡ a → a.epochs ≤ c.epochs + 1 → a.extrapolations ≤ c.extrapolations + 1
+pub counts-checked : (r : Result (Pace Counts) NotFinite) (c a : Counts) → counts_of r a ≡ a → a.epochs ≤ c.epochs + 1
+    → a.extrapolations ≤ c.extrapolations + 1
     → ((counts_of r c).epochs ≤ c.epochs + 1) × ((counts_of r c).extrapolations ≤ c.extrapolations + 1)
-counts-checked (Inner'.Going d) c a e h k = (rw e h, rw e k)
-counts-checked (Inner'.Stopped d) c a e h k = (rw e h, rw e k)
-counts-checked Inner'.Bad c a e h k = (omega arith, omega arith)
+counts-checked (Ok (Going d)) c a e h k = (rw e h, rw e k)
+counts-checked (Ok (Stopped d)) c a e h k = (rw e h, rw e k)
+counts-checked (Err x) c a e h k = (omega arith, omega arith)
 
 -- ---- the epoch
 module _ (T : Task) (y : List Float) (S : Settings) (ws : List ℕ) (outer : Float) (e : ℕ) (c : Counts) where
@@ -101,16 +106,15 @@ module _ (T : Task) (y : List Float) (S : Settings) (ws : List ℕ) (outer : Flo
   unfolding accelerated
   accelerated-from a b kept q = refl
 
-  pub epoch-bad : (w fit w' fit' kept : List Float) (r : Bool) → r ≡ false → visit_of r w' fit' ≡ visits T ws (point_with w fit)
-      → bad ≡ epoch T y S ws outer e (inner_of c w fit kept)
+  pub epoch-bad : (w fit kept : List Float) → bad ≡ visits T ws (point_with w fit) → bad ≡ epoch T y S ws outer e (inner_of c w fit kept)
   unfolding epoch
-  epoch-bad w fit w' fit' kept r h v = rw (← v, h)
+  epoch-bad w fit kept v = rw (← v)
 
-  module _ (w fit w₁ fit₁ kept : List Float) (r : Bool) (h : r ≡ true) (v : visit_of r w₁ fit₁ ≡ visits T ws (point_with w fit)) (after : Counts)
+  module _ (w fit w₁ fit₁ kept : List Float) (v : going (point_with w₁ fit₁) ≡ visits T ws (point_with w fit)) (after : Counts)
       (w₂ fit₂ kept₂ : List Float) (a : inner_of after w₂ fit₂ kept₂ ≡ accelerated T y S ws e (inner_of c w₁ fit₁ kept) (point_with w₁ fit₁)) where
     pub epoch-settled : settled T S ws outer e (inner_of after w₂ fit₂ kept₂) ≡ epoch T y S ws outer e (inner_of c w fit kept)
     unfolding epoch
-    epoch-settled = rw (← v, h, a, accelerated-from (point_with w fit) (point_with w₁ fit₁) kept (point_with w₁ fit₁))
+    epoch-settled = rw (← v, a, accelerated-from (point_with w fit) (point_with w₁ fit₁) kept (point_with w₁ fit₁))
 
     pub epoch_unchecked : (b : Bool) → b ≡ checks e → b ≡ false → going (inner_of after w₂ fit₂ kept₂) ≡ epoch T y S ws outer e (inner_of c w fit kept)
     unfolding settled

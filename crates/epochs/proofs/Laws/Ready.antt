@@ -8,11 +8,10 @@ use mathlib.Core.List.{List}
 use lib.ListN.{length}
 use lib.Ieee.{Float}
 use Rattle.doubles.specs.Num.{pick}
-use Rattle.designs.specs.Given.{Given}
 use Rattle.designs.specs.declared.Shape.{Shape}
 use Rattle.definition.specs.Call.{scratch_room}
 use Rattle.definition.specs.declared.Settings.{Settings}
-use Rattle.definition.proofs.Laws.Settings.{deep, shallow}
+use Rattle.definition.specs.declared.problem.Problem.{Problem}
 use Rattle.extrapolation.specs.Inner.Places.{StepReady}
 use Rattle.extrapolation.proofs.Laws.Scratch.{room_split}
 use Rattle.epochs.specs.Inner.Reading.{Ready, Features}
@@ -32,39 +31,25 @@ module _ (s : Shape) (S : Settings) where
       go true = let r = room_split S.depth s.p s.n in omega arith
       go false = omega arith
 
-module _ {g : Given} {S : Settings} {w fit scratch : List Float} (R : Ready g S w fit scratch) where
+module _ {P : Problem} {w fit scratch : List Float} (R : Ready P w fit scratch) where
   -- the violations have their places
-  pub room_for : g.shape.p ≤ length scratch
-  room_for = le_trans (room_once g.shape S) (le_of_eq (sym R.room))
+  pub room_for : P.x.matrix.shape.p ≤ length scratch
+  room_for = le_trans (room_once P.x.matrix.shape P.settings) (le_of_eq (sym R.room))
 
   -- buffers of the same lengths are as ready
   pub ready_still : (w' fit' scratch' : List Float) → length w' ≡ length w → length fit' ≡ length fit → length scratch' ≡ length scratch
-      → Ready g S w' fit' scratch'
-  ready_still w' fit' scratch' ew ef es = record {
-    whole = R.whole;
-    samples = R.samples;
-    features = R.features;
-    legal = R.legal;
-    targets = R.targets;
-    weights = ew ∙ R.weights;
-    fits = ef ∙ R.fits;
-    room = es ∙ R.room;
-  }
+      → Ready P w' fit' scratch'
+  ready_still w' fit' scratch' ew ef es = record { weights = ew ∙ R.weights; fits = ef ∙ R.fits; room = es ∙ R.room }
 
   -- with extrapolation on, its step may be taken
-  pub step_ready : {ws : List ℕ} → Features g.shape ws → S.extrapolate ≡ true → StepReady g S.depth ws w fit scratch
+  pub step_ready : {ws : List ℕ} → Features P ws → P.settings.extrapolate ≡ true → StepReady P ws w fit scratch
   step_ready F on = record {
     sized = record {
-      whole = R.whole;
-      samples = R.samples;
-      features = R.features;
-      deep = deep S R.legal on;
-      shallow = shallow S R.legal on;
+      on = on;
       weights = R.weights;
-      room = R.room ∙ room_on g.shape S on;
+      room = R.room ∙ room_on P.x.matrix.shape P.settings on;
       few = F.few;
       below = F.below;
     };
-    targets = R.targets;
     fits = R.fits;
   }

@@ -1,54 +1,46 @@
 -- What the answers of the inner loops stand for, together with the buffers, and what the loops ask for.
-use Rattle.std.specs.Prelude.{◌≡◌, List, [], ℕ, ◌≤◌, ◌<◌, length, get_or, Float}
+use Rattle.std.specs.Prelude.{◌≡◌, List, [], ℕ, ◌≤◌, ◌<◌, length, get_or, Float, Result, Ok, Err}
 use Rattle.doubles.specs.Num.{pick}
-use Rattle.doubles.specs.Answer.{none}
 use Rattle.doubles.specs.Steps.{Stage, going, stopped, bad}
-use Rattle.designs.specs.Given.{Given}
-use Rattle.designs.specs.Inner.Sound.{Whole}
-use Rattle.designs.specs.declared.Shape.{Shape}
+use Rattle.doubles.specs.declared.NotFinite.{NotFinite}
 use Rattle.definition.specs.Run.{Inner}
-use Rattle.definition.specs.Call.{scratch_room, settings_fault}
-use Rattle.definition.specs.declared.Settings.{Settings}
+use Rattle.definition.specs.Call.{scratch_room}
+use Rattle.definition.specs.declared.problem.Problem.{Problem}
 use Rattle.extrapolation.specs.Inner.Places.{kept_in, point_with}
 use Rattle.epochs.specs.declared.Counts.{Counts}
-use Rattle.epochs.specs.declared.InnerStep.{InnerStep}
-use Rattle.epochs.specs.declared.InnerStep.TheVariants as Inner'
+use Rattle.epochs.specs.declared.Pace.{Pace}
+use Rattle.epochs.specs.declared.Pace.TheVariants.{Going, Stopped}
 
 -- what is kept, if anything is
-unfoldable pub kept_here : Shape → Settings → List Float → List Float
-kept_here s S scratch = pick S.extrapolate (kept_in s S.depth scratch) []
+unfoldable pub kept_here : Problem → List Float → List Float
+kept_here P scratch = pick P.settings.extrapolate (kept_in P.x.matrix.shape P.settings.depth scratch) []
 
 -- ---- within one working set
 abbrev pub inner_of : Counts → List Float → List Float → List Float → Inner
 inner_of c w fit kept = record { point = point_with w fit; kept = kept; epochs = c.epochs; extrapolations = c.extrapolations }
 
-abbrev pub inner_stage : InnerStep → List Float → List Float → List Float → Stage Inner
-inner_stage (Inner'.Going c) w fit kept = going (inner_of c w fit kept)
-inner_stage (Inner'.Stopped c) w fit kept = stopped (inner_of c w fit kept)
-inner_stage Inner'.Bad w fit kept = bad
+abbrev pub inner_stage : Result (Pace Counts) NotFinite → List Float → List Float → List Float → Stage Inner
+inner_stage (Ok (Going c)) w fit kept = going (inner_of c w fit kept)
+inner_stage (Ok (Stopped c)) w fit kept = stopped (inner_of c w fit kept)
+inner_stage (Err e) w fit kept = bad
 
 -- what was counted, or c where a number was not finite
-abbrev pub counts_of : InnerStep → Counts → Counts
-counts_of (Inner'.Going d) c = d
-counts_of (Inner'.Stopped d) c = d
-counts_of Inner'.Bad c = c
+abbrev pub counts_of : Result (Pace Counts) NotFinite → Counts → Counts
+counts_of (Ok (Going d)) c = d
+counts_of (Ok (Stopped d)) c = d
+counts_of (Err e) c = c
 
 -- ---- what the loops ask for
--- a design, settings and buffers that passed the tests, each buffer of its room
-pub record Ready (g : Given) (S : Settings) (w fit scratch : List Float) : Type 0 where
-  pub whole : Whole g.shape g.starts g.rows g.values
-  pub samples : g.shape.n ≤ 65536
-  pub features : g.shape.p ≤ 8192
-  pub legal : settings_fault S ≡ none
-  pub targets : length g.targets ≡ g.shape.n
-  pub weights : length w ≡ g.shape.p
-  pub fits : length fit ≡ g.shape.n
-  pub room : length scratch ≡ scratch_room g.shape S
+-- each buffer has the room that the problem asks for
+pub record Ready (P : Problem) (w fit scratch : List Float) : Type 0 where
+  pub weights : length w ≡ P.x.matrix.shape.p
+  pub fits : length fit ≡ P.x.matrix.shape.n
+  pub room : length scratch ≡ scratch_room P.x.matrix.shape P.settings
 
 -- a working set of its features
-pub record Features (s : Shape) (ws : List ℕ) : Type 0 where
-  pub few : length ws ≤ s.p
-  pub below : (k : ℕ) → k < length ws → get_or ws k 0 < s.p
+pub record Features (P : Problem) (ws : List ℕ) : Type 0 where
+  pub few : length ws ≤ P.x.matrix.shape.p
+  pub below : (k : ℕ) → k < length ws → get_or ws k 0 < P.x.matrix.shape.p
 
 -- counts of at most m epochs
 pub record Bounded (m : ℕ) (c : Counts) : Type 0 where
