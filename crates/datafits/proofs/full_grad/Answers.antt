@@ -32,7 +32,7 @@ full_grad-requires c =
     let a = admits _ _ _ (sym c.in_ok-x.ensures.fault) in
     let q = and_both _ _ (sym (room (goal.at.full_grad-requires c).After-admit) ∙ a.roomy) in
     let s = and_both _ _ q.1 in
-    rw c.in_ok-x.ensures.design (leb-true _ _ q.0, leb-true _ _ s.0, leb-true _ _ s.1)
+    rw c.in_ok-x.ensures.design (a.sized.few, leb-true _ _ q.0, leb-true _ _ s.0, leb-true _ _ s.1)
 
 pub returns-in_err-x : goal.returns-in_err-x
 unfolding full_grad_fault full_grad

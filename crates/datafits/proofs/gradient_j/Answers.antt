@@ -24,7 +24,7 @@ pub gradient_j-requires : goal.gradient_j-requires
 gradient_j-requires c =
     let a = admits _ _ _ (sym c.in_ok-x.ensures.fault) in
     let q = and_both _ _ (sym (room (goal.at.gradient_j-requires c).After-admit) ∙ a.roomy) in
-    rw c.in_ok-x.ensures.design (ltb-true _ _ a.fit, leb-true _ _ q.0, leb-true _ _ q.1)
+    rw c.in_ok-x.ensures.design (ltb-true _ _ a.fit, a.sized.few, leb-true _ _ q.0, leb-true _ _ q.1)
 
 pub returns-in_err-x : goal.returns-in_err-x
 unfolding gradient_fault gradient_call

@@ -11,7 +11,7 @@ use Rattle.datafits.proofs.initialize.Goals as goal
 pub initialize-requires : goal.initialize-requires
 initialize-requires c =
     let a = admits _ _ _ (sym c.in_ok-x.ensures.fault) in
-    rw c.in_ok-x.ensures.design (leb-true _ _ (sym c.room_twice-room.ensures ∙ a.roomy), le_of_eq (sym (eqb-true _ _ a.fit)))
+    rw c.in_ok-x.ensures.design (a.sized.few, leb-true _ _ (sym c.room_twice-room.ensures ∙ a.roomy), le_of_eq (sym (eqb-true _ _ a.fit)))
 
 pub returns-in_err-x : goal.returns-in_err-x
 unfolding preparation_fault initialized

@@ -30,12 +30,6 @@ returns-then-places-n-clause-fault c =
       lt-leb _ _ c.if-places-n.true,
     )
 
-pub invariant_of-result-clause-few : goal.invariant_of-result-clause-few
-invariant_of-result-clause-few c = (sized _ _ _ _ (sym c.sizes_agree.ensures ∙ c.if-not-sizes_agree.false)).few
-
-pub invariant_of-result-clause-narrow : goal.invariant_of-result-clause-narrow
-invariant_of-result-clause-narrow c = (sized _ _ _ _ (sym c.sizes_agree.ensures ∙ c.if-not-sizes_agree.false)).narrow
-
 pub invariant_of-result-clause-dense : goal.invariant_of-result-clause-dense
 invariant_of-result-clause-dense c =
     dense_whole _ _ _ _ (sized _ _ _ _ (sym c.sizes_agree.ensures ∙ c.if-not-sizes_agree.false)).agree

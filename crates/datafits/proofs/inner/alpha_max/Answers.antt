@@ -10,7 +10,7 @@ use Rattle.datafits.proofs.inner.alpha_max.Goals as goal
 pub largest_of-requires : goal.largest_of-requires
 largest_of-requires c =
     let a = admits _ _ _ (sym c.in_ok-x.ensures.fault) in
-    rw c.in_ok-x.ensures.design (leb-true _ _ a.roomy, le_of_eq (sym (eqb-true _ _ a.fit)))
+    rw c.in_ok-x.ensures.design (a.sized.few, leb-true _ _ a.roomy, le_of_eq (sym (eqb-true _ _ a.fit)))
 
 pub returns-in_err-x : goal.returns-in_err-x
 unfolding alpha_max_fault alpha_max_call alpha_max_left
