@@ -61,6 +61,17 @@ fn layout_of(code: u8) -> Option<Layout>
     }
 }
 
+// Whether a switch with this code is on.
+fn switch_of(code: u8) -> Option<bool>
+    ensures { result ≡ here.switch_by code }
+{
+    match code {
+        0 => Some(false),
+        1 => Some(true),
+        _ => None,
+    }
+}
+
 // The shape, if the layout's code is one and the sizes are the program's.
 fn shape_of(file: &[u8]) -> Option<Shape>
     requires { (51 ≤ length file.now) × (length file.now ≤ 49152) }
@@ -102,17 +113,14 @@ fn settings_of(file: &[u8]) -> Option<Settings>
     ensures { result ≡ here.some_if (here.good_settings file.now) (def.header_settings file.now) }
 {
     let penalty = penalty_of(file)?;
-    let extrapolate = file[13];
-    if 1 < extrapolate {
-        return None;
-    }
+    let extrapolate = switch_of(file[13])?;
     Some(Settings {
         penalty,
         tolerance: f64_at(file, 27),
         start: u32_at(file, 15),
         iterations: u32_at(file, 19),
         epochs: u32_at(file, 23),
-        extrapolate: extrapolate == 1,
+        extrapolate,
         depth: file[14] as usize,
     })
 }

@@ -16,6 +16,9 @@ some_if b a = pick b (Some a) None
 abbrev pub layout_by : ℕ → Option Layout
 layout_by code = some_if (leb code 1) (pick (eqb code 1) Csc Dense)
 
+abbrev pub switch_by : ℕ → Option Bool
+switch_by code = some_if (leb code 1) (eqb code 1)
+
 -- the tests of a header that those of its tag and length leave
 unfoldable pub good_shape : List ℕ → Bool
 good_shape f = leb (byte f 11) 1 and leb (u32 f 3) 256 and leb (u32 f 7) 32
