@@ -21,10 +21,13 @@ pub fn replay(words: &Words, n: usize) -> Compared {
 }
 
 fn inner_violation(words: &Words, n: usize) -> Compared {
-    if n != 7 || 2 < words[1] {
+    let Some(penalty) = penalty_at(words, 1) else {
+        return Compared::Bad;
+    };
+    if n != 7 {
         return Compared::Bad;
     }
-    let r = inner::violation(penalty_at(words, 1), double(words[4]), double(words[5]));
+    let r = inner::violation(penalty, double(words[4]), double(words[5]));
     judge(same(r, double(words[6])))
 }
 
@@ -43,7 +46,10 @@ fn weights(words: &Words, count: usize) -> [f64; 64]
 }
 
 fn inner_value(words: &Words, n: usize) -> Compared {
-    if 64 < words[4] || 2 < words[1] {
+    let Some(penalty) = penalty_at(words, 1) else {
+        return Compared::Bad;
+    };
+    if 64 < words[4] {
         return Compared::Bad;
     }
     let count = words[4] as usize;
@@ -51,7 +57,7 @@ fn inner_value(words: &Words, n: usize) -> Compared {
         return Compared::Bad;
     }
     let w = weights(words, count);
-    let r = inner::value(penalty_at(words, 1), &w[..count]);
+    let r = inner::value(penalty, &w[..count]);
     judge(same(r, double(words[count + 5])))
 }
 

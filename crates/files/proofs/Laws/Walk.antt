@@ -14,10 +14,10 @@ use Rattle.doubles.specs.Buffer.{put}
 use Rattle.doubles.proofs.Laws.Choice.{and_both}
 use Rattle.doubles.proofs.Laws.Steps.{length-tab}
 use Rattle.doubles.proofs.Laws.Buffer.{length-put, put-behind}
-use Rattle.files.specs.Bytes.{u32, f64, doubles, indices}
+use Rattle.files.specs.Bytes.{byte, u32, f64, doubles, indices}
 use Rattle.files.specs.Problem.{Read, nothing_read, tag_at, length_at, whole, stored, good_header, good_field, good_at, good, joined, next_read, read_on}
 use Rattle.files.specs.Problem.{read_all}
-use Rattle.files.specs.Inner.Places.{Header, Counted, grown_by, advanced, Space, Suffice, stored_in, indexed_in, kept_if}
+use Rattle.files.specs.Inner.Places.{Headed, Counted, grown_by, advanced, Space, Suffice, stored_in, indexed_in, kept_if}
 use Rattle.files.specs.declared.Cursor.{Cursor}
 use Rattle.files.proofs.Laws.Fields.{head_inside, body_inside, header-long}
 
@@ -33,13 +33,6 @@ module _ (f : List ℕ) (s : Read) (h : good f s ≡ true) where
 
   good-first : s.at ≡ 0 → good_header f ≡ true
   good-first e = rw (eq-eqb s.at 0 e) at choice
-
-  first-long : s.at ≡ 0 → 51 ≤ length f
-  unfolding good_header
-  first-long e =
-      let a = and_both _ _ (good-first e) in
-      let b = and_both _ _ a.1 in
-      header-long f _ (rw e at good-whole) refl (eqb-true _ 48 b.0)
 
   first-tag : s.at ≡ 0 → tag_at f s.at ≡ 1
   unfolding good_header
@@ -87,6 +80,11 @@ module _ (f : List ℕ) where
   unfolding read_on
   one_more s = same-turns (length f) (suc (length f)) s (omega arith) (omega arith)
 
+-- a file that begins with no header is not read
+pub not-begun : (f : List ℕ) → (whole f 0 and good_header f) ≡ false → read_all f ≡ nothing_read
+unfolding read_all good_at
+not-begun f e = one_more f nothing_read ∙ rw e
+
 -- ---- what is counted
 grown-length : {A : Type 0} (b : Bool) (n m : ℕ) (old new : List A) → n ≡ length old → length new ≡ m → grown_by n b m ≡ length (pick b (old ++ new) old)
 grown-length true n m old new e h = rw (e, length-append old new, h)
@@ -125,16 +123,12 @@ module _ (f : List ℕ) (c : Cursor) (s : Read) (C : Counted f c s) where
           few-values = stored-few (eqb (tag_at f c.at) 3) refl;
           few-starts = fours (eqb (tag_at f c.at) 4) c.counts.starts (length_at f c.at) c.at C.few-starts;
           few-rows = fours (eqb (tag_at f c.at) 5) c.counts.rows (length_at f c.at) c.at C.few-rows;
-          headed = λ n. long (eqb c.at 0) refl;
+          behind = omega arith;
         }
       where
         stored-few : (b : Bool) → eqb (tag_at f c.at) 3 ≡ b → grown_by c.counts.values b (length_at f c.at / 8) ≤ 4096
         stored-few true q = rw (C.at, C.values) (values-fit f s g (rw (← C.at) (eqb-true _ 3 q)))
         stored-few false q = C.few-values
-
-        long : (b : Bool) → eqb c.at 0 ≡ b → Header f
-        long true q = let z : s.at ≡ 0 = sym C.at ∙ eqb-true c.at 0 q in record { long = first-long f s g z; good = good-first f s g z }
-        long false q = C.headed (eqb-false c.at 0 q)
 
     pub enough_space : (a b d e : ℕ) → length f ≤ 49152 → Suffice a b d e → Space f c a b d e
     enough_space a b d e l R =
@@ -182,30 +176,55 @@ pub record Walked (f : List ℕ) (keep : Bool) (t₀ v₀ : List Float) (s₀ r�
   pub starts : s ≡ kept_if keep s₀ so_far.starts
   pub rows : r ≡ kept_if keep r₀ so_far.rows
 
-module _ (f : List ℕ) (keep : Bool) (t₀ v₀ : List Float) (s₀ r₀ : List ℕ) (l : length f ≤ 49152)
-    (room : keep ≡ true → Suffice (length t₀) (length v₀) (length s₀) (length r₀)) where
-  counts-none : Counted f (record { at = 0; tag = 0; counts = record { targets = 0; values = 0; starts = 0; rows = 0 } }) nothing_read
-  counts-none = record {
+-- ---- behind the header
+abbrev pub begin : Read
+begin = record { at = 51; tag = 1; targets = []; values = []; starts = []; rows = [] }
+
+module _ (f : List ℕ) (H : Headed f) where
+  tag-one : byte f 0 ≡ 1
+  unfolding good_header
+  tag-one = eqb-true _ 1 (and_both _ _ H.good).0
+
+  pub header-length : length_at f 0 ≡ 48
+  unfolding good_header
+  header-length = eqb-true _ 48 (and_both _ _ (and_both _ _ H.good).1).0
+
+  pub header_long : 51 ≤ length f
+  header_long = header-long f _ H.whole_first refl header-length
+
+  first-good : good f nothing_read ≡ true
+  unfolding good_at ◌and◌
+  first-good = rw (H.whole_first, H.good)
+
+  header-next : next_read f nothing_read ≡ begin
+  unfolding next_read
+  header-next = rw (tag-one, header-length)
+
+  header_counted : Counted f (record { at = 51; tag = 1; counts = record { targets = 0; values = 0; starts = 0; rows = 0 } }) begin
+  header_counted = record {
     at = refl;
     tag = refl;
     targets = refl;
     values = refl;
     starts = refl;
     rows = refl;
-    within = omega arith;
+    within = header_long;
     few-targets = omega arith;
     few-values = omega arith;
     few-starts = omega arith;
     few-rows = omega arith;
-    headed = λ n. absurd (n refl);
+    behind = omega arith;
   }
 
-  pub walked_none : Walked f keep t₀ v₀ s₀ r₀ t₀ v₀ s₀ r₀ (record { at = 0; tag = 0; counts = record { targets = 0; values = 0; starts = 0; rows = 0 } })
+module _ (f : List ℕ) (keep : Bool) (t₀ v₀ : List Float) (s₀ r₀ : List ℕ) (l : length f ≤ 49152)
+    (room : keep ≡ true → Suffice (length t₀) (length v₀) (length s₀) (length r₀)) where
+  pub walked_none : Headed f → Walked f keep t₀ v₀ s₀ r₀ t₀ v₀ s₀ r₀
+      (record { at = 51; tag = 1; counts = record { targets = 0; values = 0; starts = 0; rows = 0 } })
   unfolding read_all
-  walked_none = record {
-    so_far = nothing_read;
-    rest = refl;
-    counts = counts-none;
+  walked_none H = record {
+    so_far = begin;
+    rest = one_more f nothing_read ∙ rw (first-good f H, header-next f H);
+    counts = header_counted f H;
     targets = put-nothing keep t₀;
     values = put-nothing keep v₀;
     starts = put-nothing keep s₀;

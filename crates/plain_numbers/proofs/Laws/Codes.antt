@@ -21,8 +21,8 @@ use Rattle.definition.specs.Walk.{walk_call, walk_left, walk_numbers}
 use Rattle.definition.specs.declared.Report.{Report}
 use Rattle.definition.specs.declared.Settings.{Settings}
 use Rattle.definition.specs.declared.Usable.{Usable}
-use Rattle.plain_numbers.specs.Codes.{number_in, place_in, ReportNumbers, report_in, UsableNumbers, usable_in, no_penalty, coded_penalty, coded_prox, coded_settings}
-use Rattle.plain_numbers.specs.Codes.{reply, solve_reply, told, walk_reply}
+use Rattle.plain_numbers.specs.Codes.{number_in, place_in, ReportNumbers, report_in, UsableNumbers, usable_in}
+use Rattle.plain_numbers.specs.Codes.{no_penalty, coded_penalty, coded_prox, coded_settings, reply, solve_reply, told, walk_reply}
 
 -- ---- a fault in numbers is that of the equal one
 pub same-told : {a f : Fault} {number place : ℕ} → a ≡ f → (number ≡ number_in a) × (place ≡ place_in a)
@@ -41,20 +41,20 @@ pub csc_given : (x : Matrix) {n p : ℕ} {s r : Bor (List ℕ)} {v : Bor (List F
 csc_given x y h = rw (h.0, h.1, h.2, h.3)
 
 -- ---- a call that is given g with settings S, which are those promised: its answer told, and what it left, are the reply
-module _ {g g' : Given} (handed : List Float) {S S' : Settings} (b : Lent) (hg : g ≡ g') (hS : S ≡ S') where
+module _ {g g' : Given} (prepared : List Float) {S S' : Settings} (b : Lent) (hg : g ≡ g') (hS : S ≡ S') where
   pub called : {o : Outcome Report} {l : Lent} {number place : ℕ} {new : ReportNumbers} (old : ReportNumbers)
-      → (o ≡ solve_call g S handed b) × (l ≡ solve_left g S handed b)
+      → (o ≡ solve_call g S prepared b) × (l ≡ solve_left g S prepared b)
       → (number ≡ number_in o) × (place ≡ place_in o) × (new ≡ report_in o old)
-      → reply number place new l ≡ solve_reply g' S' handed b old
+      → reply number place new l ≡ solve_reply g' S' prepared b old
   unfolding solve_reply
   called old done told = rw (← hg, ← hS, ← done.0, ← done.1, told.0, told.1, told.2)
 
   -- and a walk
   pub walked : {o : Outcome Usable} {l : Lent} {numbers : List Float} {number place : ℕ} {new : UsableNumbers} (alphas : List Float) (most : ℕ)
       (old : UsableNumbers)
-      → (o ≡ walk_call g S alphas most handed b) × (l ≡ walk_left g S alphas most handed b) × (numbers ≡ walk_numbers g S alphas handed b)
+      → (o ≡ walk_call g S alphas most prepared b) × (l ≡ walk_left g S alphas most prepared b) × (numbers ≡ walk_numbers g S alphas prepared b)
       → (number ≡ number_in o) × (place ≡ place_in o) × (new ≡ usable_in o old)
-      → told number place new l numbers ≡ walk_reply g' S' alphas most handed b old
+      → told number place new l numbers ≡ walk_reply g' S' alphas most prepared b old
   unfolding walk_reply
   walked alphas most old done said = rw (← hg, ← hS, ← done.0, ← done.1, ← done.2, said.0, said.1, said.2)
 
