@@ -4,7 +4,7 @@
 ghost use Rattle.std.specs.Prelude.{◌≡◌, ℕ, ◌<◌, ◌≤◌, length, get_or};
 ghost use Rattle.designs.specs.Design as design;
 ghost use Rattle.definition.specs.Epoch as def;
-ghost use Rattle.definition.specs.Inner.Problem.{task_of};
+ghost use Rattle.definition.specs.Inner.Problem.{as_task};
 ghost use Rattle.visits.specs.Inner.Reading as reading';
 
 use columns::{column_finite, column_update, constant, set_weight, weight};
@@ -56,7 +56,7 @@ pub fn opt_cond_violation(
 ) -> Result<f64, NotFinite>
     requires { let shape = task.now.x.matrix.shape in
         (length w.now ≡ shape.p) × (length fit.now ≡ shape.n) × (length violations.old ≡ shape.p) }
-    ensures { reading'.measured_of result violations.new ≡ reading'.measured (task_of task.now) w.now fit.now }
+    ensures { reading'.measured_of result violations.new ≡ reading'.measured (as_task task.now) w.now fit.now }
 {
     all_gradients(&task.x, task.prepared, fit, violations);
     finish_violations(task.penalty, w, violations)
@@ -66,7 +66,7 @@ pub fn opt_cond_violation(
 pub fn ws_violation(task: &Task<'_>, ws: &[u32], w: &[f64], fit: &[f64]) -> Result<f64, NotFinite>
     requires { let shape = task.now.x.matrix.shape in
         ((k : ℕ) → k < length ws.now → get_or ws.now k 0 < shape.p) × (length w.now ≡ shape.p) × (length fit.now ≡ shape.n) }
-    ensures { reading'.worst_of result ≡ reading'.measured_in (task_of task.now) ws.now w.now fit.now }
+    ensures { reading'.worst_of result ≡ reading'.measured_in (as_task task.now) ws.now w.now fit.now }
 {
     let mut largest = f64::NEG_INFINITY;
     for j in ws {
@@ -100,7 +100,7 @@ fn move_fit(x: &Tested<'_>, feature: Feature, d: f64, fit: &mut [f64]) -> Result
 fn visit(task: &Task<'_>, feature: Feature, w: &mut [f64], fit: &mut [f64]) -> Result<(), NotFinite>
     requires { let shape = task.now.x.matrix.shape in
         (feature.0 < shape.p) × (length w.old ≡ shape.p) × (length fit.old ≡ shape.n) }
-    ensures { let T = task_of task.now in
+    ensures { let T = as_task task.now in
         reading'.visit_of result w.new fit.new ≡ def.visit T feature.0 (record { weights = w.old; fit = fit.old }) }
 {
     let lipschitz = constant(task.prepared, feature);
@@ -129,7 +129,7 @@ pub fn cd_epoch(
 ) -> Result<(), NotFinite>
     requires { let shape = task.now.x.matrix.shape in
         ((k : ℕ) → k < length ws.now → get_or ws.now k 0 < shape.p) × (length w.old ≡ shape.p) × (length fit.old ≡ shape.n) }
-    ensures { let T = task_of task.now in
+    ensures { let T = as_task task.now in
         reading'.visit_of result w.new fit.new ≡ def.visits T ws.now (record { weights = w.old; fit = fit.old }) }
 {
     for j in ws {

@@ -4,8 +4,8 @@ use Rattle.definition.specs.Epoch as def
 use Rattle.definition.specs.declared.problem.Problem.{Problem}
 use Rattle.definition.specs.declared.problem.Task.{Task}
 
-abbrev pub task_of : Task → def.Task
-task_of t =
+abbrev pub as_task : Task → def.Task
+as_task t =
     let x = t.x.matrix in
     def.task x.shape x.starts.now x.rows.now x.values.now t.penalty t.prepared.now
 
