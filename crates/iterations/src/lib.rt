@@ -1,26 +1,21 @@
-// The outer iterations of a run, over a design, prepared numbers, settings and buffers already tested. The scratch is laid out as the inner loops
-// have it.
+// The outer iterations of a run, over a problem behind its tests. The scratch is laid out as the inner loops have it.
 #![tactic(auto)]
 
-ghost use Rattle.std.specs.Prelude.{◌≡◌, true, List, ℕ, ◌+◌, ◌≤◌, ◌<◌, length};
+ghost use Rattle.std.specs.Prelude.{◌≡◌, true, List, ℕ, ◌<◌, length};
 ghost use Rattle.doubles.specs.Steps.{zeros};
-ghost use Rattle.designs.specs.Given.{given};
 ghost use Rattle.definition.specs.Epoch as ep;
 ghost use Rattle.definition.specs.Run as def;
 ghost use Rattle.definition.specs.Call as call;
-ghost use Rattle.extrapolation.specs.Inner.Places.{task_with};
+ghost use Rattle.definition.specs.Inner.Problem.{task_in};
 ghost use Rattle.epochs.specs.Inner.Reading as inner;
 ghost use Rattle.iterations.specs.Inner.Reading as here;
-ghost use Rattle.iterations.specs.declared.OuterStep.TheVariants.{Going};
-ghost use Rattle.iterations.specs.declared.RunEnd.TheVariants.{GivenUp};
 
 use columns::clear;
 use decisions::start_size;
-use definition::Settings;
-use designs::Shape;
-use doubles::{Refusal, is_finite};
-use epochs::{Counts, InnerStep, run_epochs};
-use visits::{Worst, opt_cond_violation};
+use definition::problem::Problem;
+use doubles::{NotFinite, Refusal};
+use epochs::{Counts, Pace, run_epochs};
+use visits::opt_cond_violation;
 use worksets::inner::construct_ws;
 
 // What is counted over a run, and the violation last found.
@@ -31,270 +26,139 @@ pub struct Totals {
     pub counts: Counts,
 }
 
-// How a turn of the outer loop ends.
-#[derive(Clone, Copy, Drop)]
-pub enum OuterStep {
-    Going(Totals),
-    Stopped(Totals),
-    Bad,
-}
-
-// How a run ends.
-#[derive(Clone, Copy, Drop)]
-pub enum RunEnd {
-    GivenUp(Refusal),
-    Done(Totals),
-}
+// Before the first turn.
+const NOTHING_COUNTED: Totals = Totals {
+    violation: 0.0,
+    iterations: 0,
+    counts: Counts {
+        epochs: 0,
+        extrapolations: 0,
+    },
+};
 
 // ---- the outer loop
 
-// One more iteration is counted.
-fn one_more(v: f64, totals: Totals, counts: Counts) -> OuterStep
-    requires { totals.iterations ≤ 1000 }
-    ensures { result ≡ Going (record { violation = v; iterations = totals.iterations + 1; counts = counts }) }
-{
-    OuterStep::Going(Totals {
-        violation: v,
-        iterations: totals.iterations + 1,
-        counts: counts,
-    })
-}
-
 // One iteration at the largest violation v: the working set of the violations in the scratch is built, and its epochs are run.
 fn iterate(
-    shape: Shape,
-    starts: &[u32],
-    rows: &[u32],
-    values: &[f64],
-    y: &[f64],
-    prepared: &[f64],
-    settings: Settings,
+    problem: &Problem<'_>,
     v: f64,
     w: &mut [f64],
     fit: &mut [f64],
     indices: &mut [u32],
     scratch: &mut [f64],
     totals: Totals,
-) -> OuterStep
-    requires { let g = given shape starts.now rows.now values.now y.now in
-        let T = task_with g settings.penalty prepared.now in
-        inner.Ready g settings w.old fit.old scratch.old × (length prepared.now ≡ shape.p + shape.p)
-        × (length indices.old ≡ shape.p) × here.Totalled 999 totals
-        × (here.violations_in shape scratch.old ≡ ep.violations T w.old fit.old) × (ep.all_known T w.old fit.old ≡ true) }
-    ensures { let g = given shape starts.now rows.now values.now y.now in
-        let T = task_with g settings.penalty prepared.now in
-        let kept = inner.kept_here shape settings scratch.old in
-        let before = here.state_of totals w.old fit.old kept in
-        ((sets : List (List ℕ)) → here.shows shape settings result w.new fit.new scratch.new
-        (def.iteration T y.now settings v (before sets)))
+) -> Result<Pace<Totals>, NotFinite>
+    requires { let P = problem.now in
+        inner.Ready P w.old fit.old scratch.old × (length indices.old ≡ P.x.matrix.shape.p) × here.Totalled 999 totals
+        × (here.violations_in P scratch.old ≡ ep.violations (task_in P) w.old fit.old) × (ep.all_known (task_in P) w.old fit.old ≡ true) }
+    ensures { let P = problem.now in
+        let before = here.state_of totals w.old fit.old (inner.kept_here P scratch.old) in
+        ((sets : List (List ℕ)) → here.shows P result w.new fit.new scratch.new (def.iteration (task_in P) P.y.now P.settings v (before sets)))
         × here.Grown totals (here.totals_of result totals) }
 {
-    let p = shape.p;
-    let start = start_size(settings.start, p);
+    let p = problem.x.matrix.shape.p;
+    let start = start_size(problem.settings.start, p);
     let many = construct_ws(&scratch[..p], w, start, indices);
     let ws = &indices[..many];
-    let counts = totals.counts;
-    match run_epochs(
-        shape, starts, rows, values, y, prepared, settings, v, ws, w, fit, scratch, counts,
-    ) {
-        InnerStep::Going(c) => one_more(v, totals, c),
-        InnerStep::Stopped(c) => one_more(v, totals, c),
-        InnerStep::Bad => OuterStep::Bad,
-    }
-}
-
-// The totals with the violation that was found last.
-fn at_violation(v: f64, totals: Totals) -> Totals
-    ensures { result ≡ here.at_violation v totals }
-{
-    let counts = totals.counts;
-    Totals {
+    let counts = match run_epochs(problem, v, ws, w, fit, scratch, totals.counts)? {
+        Pace::Going(counts) | Pace::Stopped(counts) => counts,
+    };
+    Ok(Pace::Going(Totals {
         violation: v,
-        iterations: totals.iterations,
-        counts: counts,
-    }
+        iterations: totals.iterations + 1,
+        counts,
+    }))
 }
 
 // A turn of the outer loop before the last: the check, which may end the run, then an iteration.
 fn turn(
-    shape: Shape,
-    starts: &[u32],
-    rows: &[u32],
-    values: &[f64],
-    y: &[f64],
-    prepared: &[f64],
-    settings: Settings,
+    problem: &Problem<'_>,
     w: &mut [f64],
     fit: &mut [f64],
     indices: &mut [u32],
     scratch: &mut [f64],
     totals: Totals,
-) -> OuterStep
-    requires { inner.Ready (given shape starts.now rows.now values.now y.now) settings w.old fit.old scratch.old
-        × (length prepared.now ≡ shape.p + shape.p) × (length indices.old ≡ shape.p) × here.Totalled 999 totals }
-    ensures { let g = given shape starts.now rows.now values.now y.now in
-        let T = task_with g settings.penalty prepared.now in
-        let kept = inner.kept_here shape settings scratch.old in
-        let before = here.state_of totals w.old fit.old kept in
-        ((t : ℕ) → t < settings.iterations → (sets : List (List ℕ)) → here.shows shape settings result w.new fit.new scratch.new
-        (def.turn T y.now settings t (before sets)))
+) -> Result<Pace<Totals>, NotFinite>
+    requires { inner.Ready problem.now w.old fit.old scratch.old × (length indices.old ≡ problem.now.x.matrix.shape.p)
+        × here.Totalled 999 totals }
+    ensures { let P = problem.now in
+        let before = here.state_of totals w.old fit.old (inner.kept_here P scratch.old) in
+        ((t : ℕ) → t < P.settings.iterations → (sets : List (List ℕ)) → here.shows P result w.new fit.new scratch.new
+        (def.turn (task_in P) P.y.now P.settings t (before sets)))
         × here.Grown totals (here.totals_of result totals) }
 {
-    let p = shape.p;
-    let penalty = settings.penalty;
-    match opt_cond_violation(
-        shape,
-        starts,
-        rows,
-        values,
-        penalty,
-        prepared,
-        w,
-        fit,
-        &mut scratch[..p],
-    ) {
-        Worst::Bad => OuterStep::Bad,
-        Worst::Is(v) => {
-            if v <= settings.tolerance {
-                return OuterStep::Stopped(at_violation(v, totals));
-            }
-            iterate(
-                shape, starts, rows, values, y, prepared, settings, v, w, fit, indices, scratch,
-                totals,
-            )
-        }
+    let p = problem.x.matrix.shape.p;
+    let v = opt_cond_violation(problem, w, fit, &mut scratch[..p])?;
+    if v <= problem.settings.tolerance {
+        return Ok(Pace::Stopped(Totals {
+            violation: v,
+            ..totals
+        }));
     }
-}
-
-// Refusal 7.
-fn not_finite() -> RunEnd
-    ensures { result ≡ GivenUp (record { number = 7; place = 0 }) }
-{
-    RunEnd::GivenUp(Refusal {
-        number: 7,
-        place: 0,
-    })
+    iterate(problem, v, w, fit, indices, scratch, totals)
 }
 
 // The last turn is the check alone.
 fn last_turn(
-    shape: Shape,
-    starts: &[u32],
-    rows: &[u32],
-    values: &[f64],
-    y: &[f64],
-    prepared: &[f64],
-    settings: Settings,
+    problem: &Problem<'_>,
     w: &[f64],
     fit: &[f64],
     scratch: &mut [f64],
     totals: Totals,
-) -> RunEnd
-    requires { inner.Ready (given shape starts.now rows.now values.now y.now) settings w.now fit.now scratch.old
-        × (length prepared.now ≡ shape.p + shape.p) }
-    ensures { let g = given shape starts.now rows.now values.now y.now in
-        let T = task_with g settings.penalty prepared.now in
-        let kept = inner.kept_here shape settings scratch.old in
-        let before = here.state_of totals w.now fit.now kept in
-        (sets : List (List ℕ)) → here.shows_end shape settings result w.now fit.now scratch.new
-        (call.concluded (def.turn T y.now settings settings.iterations (before sets))) }
+) -> Result<Totals, NotFinite>
+    requires { inner.Ready problem.now w.now fit.now scratch.old }
+    ensures { let P = problem.now in
+        let before = here.state_of totals w.now fit.now (inner.kept_here P scratch.old) in
+        (sets : List (List ℕ)) → here.shows_end P (here.refusing result) w.now fit.now scratch.new
+        (call.concluded (def.turn (task_in P) P.y.now P.settings P.settings.iterations (before sets))) }
 {
-    let p = shape.p;
-    let penalty = settings.penalty;
-    match opt_cond_violation(
-        shape,
-        starts,
-        rows,
-        values,
-        penalty,
-        prepared,
-        w,
-        fit,
-        &mut scratch[..p],
-    ) {
-        Worst::Bad => not_finite(),
-        Worst::Is(v) => RunEnd::Done(at_violation(v, totals)),
-    }
-}
-
-// Before the first turn.
-fn nothing_counted() -> Totals
-    ensures { result ≡ here.nothing_counted }
-{
-    Totals {
-        violation: 0.0,
-        iterations: 0,
-        counts: Counts {
-            epochs: 0,
-            extrapolations: 0,
-        },
-    }
+    let p = problem.x.matrix.shape.p;
+    let v = opt_cond_violation(problem, w, fit, &mut scratch[..p])?;
+    Ok(Totals {
+        violation: v,
+        ..totals
+    })
 }
 
 // The run, from zero weights and zero fit.
 fn run(
-    shape: Shape,
-    starts: &[u32],
-    rows: &[u32],
-    values: &[f64],
-    y: &[f64],
-    prepared: &[f64],
-    settings: Settings,
+    problem: &Problem<'_>,
     w: &mut [f64],
     fit: &mut [f64],
     indices: &mut [u32],
     scratch: &mut [f64],
-) -> RunEnd
-    requires { inner.Ready (given shape starts.now rows.now values.now y.now) settings w.old fit.old scratch.old
-        × (length prepared.now ≡ shape.p + shape.p) × (length indices.old ≡ shape.p) × (w.old ≡ zeros shape.p)
-        × (fit.old ≡ zeros shape.n)
-        × (inner.kept_here shape settings scratch.old ≡ here.nothing_kept shape settings) }
-    ensures { let g = given shape starts.now rows.now values.now y.now in
-        let T = task_with g settings.penalty prepared.now in
-        here.shows_end shape settings result w.new fit.new scratch.new
-        (call.concluded (def.run T y.now settings)) }
+) -> Result<Totals, NotFinite>
+    requires { let P = problem.now in
+        inner.Ready P w.old fit.old scratch.old × (length indices.old ≡ P.x.matrix.shape.p) × (w.old ≡ zeros P.x.matrix.shape.p)
+        × (fit.old ≡ zeros P.x.matrix.shape.n) × (inner.kept_here P scratch.old ≡ here.nothing_kept P) }
+    ensures { let P = problem.now in
+        here.shows_end P (here.refusing result) w.new fit.new scratch.new (call.concluded (def.run (task_in P) P.y.now P.settings)) }
 {
-    let mut totals = nothing_counted();
-    let mut t = 0;
-    while t < settings.iterations {
-        match turn(
-            shape, starts, rows, values, y, prepared, settings, w, fit, indices, scratch, totals,
-        ) {
-            OuterStep::Going(c) => totals = c,
-            OuterStep::Stopped(c) => return RunEnd::Done(c),
-            OuterStep::Bad => return not_finite(),
+    let mut totals = NOTHING_COUNTED;
+    for t in 0..problem.settings.iterations {
+        match turn(problem, w, fit, indices, scratch, totals)? {
+            Pace::Going(now) => totals = now,
+            Pace::Stopped(now) => return Ok(now),
         }
-        t += 1;
     }
-    last_turn(
-        shape, starts, rows, values, y, prepared, settings, w, fit, scratch, totals,
-    )
+    last_turn(problem, w, fit, scratch, totals)
 }
 
-// The run, whatever the buffers hold.
+// The run, whatever the buffers hold. A number that is not finite is refusal 7.
 pub fn start_run(
-    shape: Shape,
-    starts: &[u32],
-    rows: &[u32],
-    values: &[f64],
-    y: &[f64],
-    prepared: &[f64],
-    settings: Settings,
+    problem: &Problem<'_>,
     w: &mut [f64],
     fit: &mut [f64],
     indices: &mut [u32],
     scratch: &mut [f64],
-) -> RunEnd
-    requires { inner.Ready (given shape starts.now rows.now values.now y.now) settings w.old fit.old scratch.old
-        × (length prepared.now ≡ shape.p + shape.p) × (length indices.old ≡ shape.p) }
-    ensures { let g = given shape starts.now rows.now values.now y.now in
-        let T = task_with g settings.penalty prepared.now in
-        here.shows_end shape settings result w.new fit.new scratch.new (call.solved T y.now settings) }
+) -> Result<Totals, Refusal>
+    requires { inner.Ready problem.now w.old fit.old scratch.old × (length indices.old ≡ problem.now.x.matrix.shape.p) }
+    ensures { let P = problem.now in
+        here.shows_end P result w.new fit.new scratch.new (call.solved (task_in P) P.y.now P.settings) }
 {
     clear(w);
     clear(fit);
     clear(scratch);
-    run(
-        shape, starts, rows, values, y, prepared, settings, w, fit, indices, scratch,
-    )
+    let totals = run(problem, w, fit, indices, scratch)?;
+    Ok(totals)
 }

@@ -1,5 +1,6 @@
 -- One turn of the outer loop, from what its parts answer to its definition. Assumes nothing.
 use mathlib.Core.Path.{◌≡◌, refl, sym, ap, ◌∙◌}
+use mathlib.Core.Logic.{◌⊎◌, inl, inr}
 use mathlib.Core.Bool.{Bool, true, false}
 use Prim.Native.Nat.{ℕ, ◌+◌, ◌-◌, ◌≤◌, ◌<◌}
 use native.Mathlib.Nat.{le_of_eq, le_trans}
@@ -10,18 +11,20 @@ use lib.ListN.{length, take, drop, length-append, length-drop}
 use lib.Seq.{take_at, drop_at}
 use lib.Ieee.{Float, nan, le}
 use borrow.Author.Tests.{eq-eqb, ne_eqb}
+use Rattle.std.specs.Prelude.{Result, Ok, Err}
+use Rattle.doubles.specs.declared.NotFinite.{NotFinite}
 use Rattle.doubles.specs.Num.{pick, finite, ◌or◌}
 use Rattle.doubles.specs.Steps.{Stage, going, stopped, bad, and_then, tab}
 use Rattle.doubles.proofs.Laws.Steps.{get_or-tab, all-each, picked, not_picked}
 use Rattle.doubles.proofs.Laws.Choice.{and_both, smaller_most}
-use Rattle.designs.specs.Given.{Given}
-use Rattle.designs.specs.declared.Shape.{Shape}
 use Rattle.definition.specs.WorkingSet.{smaller, size, working_set, padded}
 use Rattle.definition.specs.Epoch.{Task, gradient_of, violation_of, known, all_known, violations, worst}
 use Rattle.definition.specs.Run.{State, epochs, chosen_set, iteration, turn}
 use Rattle.definition.specs.Call.{concluded}
 use Rattle.definition.specs.declared.Settings.{Settings}
-use Rattle.extrapolation.specs.Inner.Places.{task_with, kept_in, point_with}
+use Rattle.definition.specs.declared.problem.Problem.{Problem}
+use Rattle.definition.specs.Inner.Problem.{task_in}
+use Rattle.extrapolation.specs.Inner.Places.{kept_in, point_with}
 use Rattle.selection.specs.Inner.Heap.{Numbers}
 use Rattle.worksets.proofs.Laws.Sets.{size_most, length-working_set, working_set-each}
 use Rattle.visits.specs.Inner.Reading.{Measured, measured}
@@ -29,11 +32,8 @@ use Rattle.epochs.specs.Inner.Reading.{kept_here, inner_of, inner_stage, counts_
 use Rattle.iterations.specs.Inner.Reading.{state_of, at_violation, outer_stage, sets_of, shows, shows_end, violations_in, Totalled, Grown}
 use Rattle.epochs.specs.declared.Counts.{Counts}
 use Rattle.iterations.specs.declared.Totals.{Totals}
-use Rattle.epochs.specs.declared.InnerStep.{InnerStep}
-use Rattle.epochs.specs.declared.InnerStep.TheVariants as Inner'
-use Rattle.iterations.specs.declared.OuterStep.{OuterStep}
-use Rattle.iterations.specs.declared.OuterStep.TheVariants as Outer'
-use Rattle.iterations.specs.declared.RunEnd.TheVariants as RunEnd
+use Rattle.epochs.specs.declared.Pace.{Pace}
+use Rattle.epochs.specs.declared.Pace.TheVariants.{Going, Stopped}
 
 -- ---- the working set
 pub start_most : (a n m k : ℕ) → k ≡ smaller a n → m ≡ n → k ≤ m
@@ -49,8 +49,8 @@ module _ (start : ℕ) (v w : List Float) (h : start ≤ length w) (many : ℕ) 
   pub set_most : many ≤ length w
   set_most = le_trans (le_of_eq em) (size_most start w h)
 
-  pub set-features : (s : Shape) → length w ≡ s.p → Features s (take many l)
-  set-features s e = record {
+  pub set-features : (P : Problem) → length w ≡ P.x.matrix.shape.p → Features P (take many l)
+  set-features P e = record {
     few = rw (set_built, ← e) (le_trans (le_of_eq (length-working_set start w h v)) (size_most start w h));
     below = rw (set_built, ← e) (working_set-each start w h v);
   }
@@ -71,42 +71,52 @@ numbers-known T w fit v e k n = record { each = λ j h z. rw (e, get_or-tab (vio
 
 -- ---- one iteration
 module _ (T : Task) (y : List Float) (S : Settings) (v : Float) (c : Totals) (w fit kept : List Float) (ws : List ℕ)
-    (es : ws ≡ chosen_set T S (point_with w fit)) (r : InnerStep) (w' fit' kept' : List Float)
-    (ex : inner_stage r w' fit' kept' ≡ epochs T y S ws v (inner_of c.counts w fit kept)) (sets : List (List ℕ)) where
-  iterated : iteration T y S v (state_of c w fit kept sets)
+    (es : ws ≡ chosen_set T S (point_with w fit)) (r : Result (Pace Counts) NotFinite) (w' fit' kept' : List Float)
+    (left : (inner_stage r w' fit' kept' ≡ epochs T y S ws v (inner_of c.counts w fit kept))
+    × ((counts_of r c.counts).epochs ≤ c.counts.epochs + 100000) × ((counts_of r c.counts).extrapolations ≤ c.counts.extrapolations + 100000)) where
+  iterated : (sets : List (List ℕ)) → iteration T y S v (state_of c w fit kept sets)
       ≡ and_then (inner_stage r w' fit' kept') (λ i. going (record { inner = i; violation = v; iterations = c.iterations + 1; sets = sets ++ (ws ∷ []) }))
   unfolding iteration
-  iterated = rw (← es, ← ex)
+  iterated sets = rw (← es, ← left.0)
 
-  -- its epochs ended well, and d was counted
-  module _ (d : Counts) where
-    abbrev pub Shown : Type 0
-    Shown =
-        let now = iteration T y S v (state_of c w fit kept sets) in
-        outer_stage (Outer'.Going (record { violation = v; iterations = c.iterations + 1; counts = d })) w' fit' kept' (sets_of now) ≡ now
+  -- its epochs ended well, early or not, and d was counted
+  module _ (p : Pace Counts) (e : r ≡ Ok p) (x d : Counts) (ex : x ≡ d) where
+    abbrev now : Totals
+    now = record { violation = v; iterations = c.iterations + 1; counts = x }
 
-    pub shown_going : r ≡ Inner'.Going d → Shown
-    shown_going e = rw (iterated, e)
+    abbrev Now : List (List ℕ) → Stage State
+    Now sets = iteration T y S v (state_of c w fit kept sets)
 
-    pub shown_stopped : r ≡ Inner'.Stopped d → Shown
-    shown_stopped e = rw (iterated, e)
+    pub iterated_well : (p ≡ Going d) ⊎ (p ≡ Stopped d)
+        → ((sets : List (List ℕ)) → outer_stage (Ok (Going now)) w' fit' kept' (sets_of (Now sets)) ≡ Now sets) × Grown c now
+    iterated_well (inl h) =
+        let a = rw (e, h) at left.1 in
+        let b = rw (e, h) at left.2 in
+        (λ sets. rw (iterated sets, e, h, ex), record { iterations = omega arith; epochs = rw ex a; extrapolations = rw ex b })
+    iterated_well (inr h) =
+        let a = rw (e, h) at left.1 in
+        let b = rw (e, h) at left.2 in
+        (λ sets. rw (iterated sets, e, h, ex), record { iterations = omega arith; epochs = rw ex a; extrapolations = rw ex b })
 
-  pub shown_bad : r ≡ Inner'.Bad → bad ≡ iteration T y S v (state_of c w fit kept sets)
-  shown_bad e = rw (iterated, e)
+  pub shown_bad : (x : NotFinite) → r ≡ Err x → (sets : List (List ℕ)) → bad ≡ iteration T y S v (state_of c w fit kept sets)
+  shown_bad x e sets = rw (iterated sets, e)
 
 -- ---- the check of all features writes the scratch's first p places, in which vs came back
-module _ (s : Shape) (l vs : List Float) (long : length vs ≡ s.p) where
-  pub violations-read : violations_in s (vs ++ drop s.p l) ≡ vs
-  violations-read = take_at vs (drop s.p l) s.p long
+module _ (P : Problem) (l vs : List Float) (long : length vs ≡ P.x.matrix.shape.p) where
+  abbrev p : ℕ
+  p = P.x.matrix.shape.p
 
-  pub kept-measured : (S : Settings) → kept_here s S (vs ++ drop s.p l) ≡ kept_here s S l
+  pub violations-read : violations_in P (vs ++ drop p l) ≡ vs
+  violations-read = take_at vs (drop p l) p long
+
+  pub kept-measured : kept_here P (vs ++ drop p l) ≡ kept_here P l
   unfolding kept_here kept_in
-  kept-measured S = rw (drop_at vs (drop s.p l) s.p long)
+  kept-measured = rw (drop_at vs (drop p l) p long)
 
-  pub long_as_before : s.p ≤ length l → length (vs ++ drop s.p l) ≡ length l
+  pub long_as_before : p ≤ length l → length (vs ++ drop p l) ≡ length l
   long_as_before h =
-      let a = length-append vs (drop s.p l) in
-      let b = length-drop s.p l in
+      let a = length-append vs (drop p l) in
+      let b = length-drop p l in
       omega arith
 
 -- ---- the turn
@@ -156,29 +166,26 @@ module _ (T : Task) (y : List Float) (S : Settings) (t : ℕ) (c : Totals) (w fi
     turn-iterates h l = rw (h, ne_eqb t S.iterations (λ q. omega (arith, q))) at by_last
 
 -- what a turn shows, over what the check left of the scratch l
-module _ (g : Given) (prepared : List Float) (S : Settings) (t : ℕ) (c : Totals) (w fit l vs : List Float) (v : Float) (long : length vs ≡ g.shape.p)
-    (e : going (record { largest = v; violations = vs }) ≡ measured (task_with g S.penalty prepared) w fit) (sets : List (List ℕ)) where
-  abbrev T : Task
-  T = task_with g S.penalty prepared
-
+module _ (P : Problem) (t : ℕ) (c : Totals) (w fit l vs : List Float) (v : Float) (long : length vs ≡ P.x.matrix.shape.p)
+    (e : going (record { largest = v; violations = vs }) ≡ measured (task_in P) w fit) (sets : List (List ℕ)) where
   abbrev left : List Float
-  left = vs ++ drop g.shape.p l
+  left = vs ++ drop P.x.matrix.shape.p l
 
   abbrev Turn : Stage State
-  Turn = turn T g.targets S t (state_of c w fit (kept_here g.shape S l) sets)
+  Turn = turn (task_in P) P.y.now P.settings t (state_of c w fit (kept_here P l) sets)
 
-  pub turn_stops : le v S.tolerance ≡ true → shows g.shape S (Outer'.Stopped (at_violation v c)) w fit left Turn
-  turn_stops h = rw (turn-met T g.targets S t c w fit (kept_here g.shape S l) sets v vs e h, kept-measured g.shape l vs long S)
+  pub turn_stops : le v P.settings.tolerance ≡ true → shows P (Ok (Stopped (at_violation v c))) w fit left Turn
+  turn_stops h = rw (turn-met (task_in P) P.y.now P.settings t c w fit (kept_here P l) sets v vs e h, kept-measured P l vs long)
 
-  pub last_stops : t ≡ S.iterations → shows_end g.shape S (RunEnd.Done (at_violation v c)) w fit left (concluded Turn)
-  last_stops h = rw (turn-ends T g.targets S t c w fit (kept_here g.shape S l) sets v vs e h, kept-measured g.shape l vs long S)
+  pub last_stops : t ≡ P.settings.iterations → shows_end P (Ok (at_violation v c)) w fit left (concluded Turn)
+  last_stops h = rw (turn-ends (task_in P) P.y.now P.settings t c w fit (kept_here P l) sets v vs e h, kept-measured P l vs long)
 
   -- the iteration that follows is run on what the check left
-  pub turn_goes_on : le v S.tolerance ≡ false → t < S.iterations → (r : OuterStep) (w' fit' scratch' : List Float)
-      → shows g.shape S r w' fit' scratch' (iteration T g.targets S v (state_of c w fit (kept_here g.shape S left) sets))
-      → shows g.shape S r w' fit' scratch' Turn
+  pub turn_goes_on : le v P.settings.tolerance ≡ false → t < P.settings.iterations → (r : Result (Pace Totals) NotFinite) (w' fit' scratch' : List Float)
+      → shows P r w' fit' scratch' (iteration (task_in P) P.y.now P.settings v (state_of c w fit (kept_here P left) sets))
+      → shows P r w' fit' scratch' Turn
   turn_goes_on h n r w' fit' scratch' q =
-      rw (turn-iterates T g.targets S t c w fit (kept_here g.shape S l) sets v vs e h n) (rw (kept-measured g.shape l vs long S) at q)
+      rw (turn-iterates (task_in P) P.y.now P.settings t c w fit (kept_here P l) sets v vs e h n) (rw (kept-measured P l vs long) at q)
 
 -- ---- what is counted
 pub totalled_more : (t : ℕ) (c d : Totals) → Totalled t c → Grown c d → Totalled (t + 1) d
@@ -190,12 +197,6 @@ totalled_more t c d h g =
     let ge = g.epochs in
     let gx = g.extrapolations in
     record { iterations = omega arith; counts = record { epochs = omega arith; extrapolations = omega arith } }
-
--- from what the epochs of one working set counted
-pub grown_by_lem : (c : Totals) (v : Float) (r : InnerStep) (d : Counts) → counts_of r c.counts ≡ d
-    → (counts_of r c.counts).epochs ≤ c.counts.epochs + 100000 → (counts_of r c.counts).extrapolations ≤ c.counts.extrapolations + 100000
-    → Grown c (record { violation = v; iterations = c.iterations + 1; counts = d })
-grown_by_lem c v r d e a b = record { iterations = omega arith; epochs = rw e at a; extrapolations = rw e at b }
 
 pub grown-same : (c : Totals) (v : Float) → Grown c (at_violation v c)
 grown-same c v = record { iterations = omega arith; epochs = omega arith; extrapolations = omega arith }
