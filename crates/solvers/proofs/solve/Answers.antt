@@ -1,15 +1,20 @@
--- `solve`: the tests, and where they find nothing, the run. Assumes nothing.
-use Rattle.solvers.proofs.Laws.Calls.{left-refused, tests_passed, left-run}
+-- `solve`: the tests, and where they find nothing, the run on a problem that passed them. Assumes nothing.
 use Rattle.solvers.proofs.solve.Goals as goal
 
+pub returns-in_err-tested : goal.returns-in_err-tested
+returns-in_err-tested c = ?
+
+pub overflow_add-problem : goal.overflow_add-problem
+overflow_add-problem c = ?
+
+pub slice_bounds-problem-end : goal.slice_bounds-problem-end
+slice_bounds-problem-end c = ?
+
+pub invariant_of-problem : goal.invariant_of-problem
+invariant_of-problem c = ?
+
 pub solve_tested-requires : goal.solve_tested-requires
-solve_tested-requires c =
-    tests_passed _ _ _ _ _ c.check_solve.ensures c.in-Fine.is
+solve_tested-requires c = ?
 
-pub returns-in-Refused : goal.returns-in-Refused
-returns-in-Refused c =
-    left-refused _ _ _ _ _ c.check_solve.ensures _ c.in-Refused.is
-
-pub returns-in-Fine : goal.returns-in-Fine
-returns-in-Fine c =
-    left-run _ _ _ _ _ c.check_solve.ensures c.in-Fine.is _ _ c.solve_tested.ensures
+pub returns : goal.returns
+returns c = ?
