@@ -34,8 +34,9 @@ pub fn has_room(
 {
     let Shape { n, p, .. } = shape;
     let room = scratch_room(shape, settings);
+    let lent = p <= w.len() && n <= fit.len();
     let used = p <= indices.len() && room <= scratch.len();
-    p + p <= prepared.len() && p <= w.len() && n <= fit.len() && used
+    p + p <= prepared.len() && lent && used
 }
 
 // ---- the answer

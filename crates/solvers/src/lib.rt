@@ -87,7 +87,7 @@ pub fn solve(
         × (call.lent w.new fit.new indices.new scratch.new ≡ call.solve_left g settings prepared.now b) }
 {
     let tested = check_solve(x, y, prepared, settings, w, fit, indices, scratch)?;
-    let p = x.shape.p;
+    let p = tested.matrix.shape.p;
     let problem = Problem {
         x: tested,
         y,

@@ -1,29 +1,27 @@
 -- The answer and the buffers of a solve, from what its parts answer. Assumes nothing.
 use mathlib.Core.Path.{◌≡◌, refl, sym, ◌∙◌}
-use mathlib.Core.Bool.{Bool, true, false}
+use mathlib.Core.Bool.{Bool}
 use Prim.Native.Nat.{ℕ, ◌+◌, ◌≤◌}
 use mathlib.Core.List.{List}
-use lib.Dec.{leb}
-use lib.ListN.{length, take}
-use lib.Seq.{length-take-le}
+use lib.ListN.{length}
 use lib.Ieee.{Float}
-use borrow.Author.Tests.{leb-true, eqb-true}
-use Rattle.doubles.specs.Num.{pick, ◌and◌}
+use borrow.Author.Tests.{leb-true}
+use Rattle.doubles.specs.Num.{◌and◌}
 use Rattle.doubles.specs.Steps.{tab, zeros}
 use Rattle.doubles.specs.Buffer.{put}
-use Rattle.doubles.specs.Answer.{Outcome, refused, answered, Fault, none, number, outcome_of, unless, ◌then◌}
+use Rattle.doubles.specs.Answer.{Outcome, refused, answered, Fault, none, number}
 use Rattle.std.specs.Prelude.{Result, Ok, Err}
 use Rattle.doubles.specs.declared.Refusal.{Refusal}
 use Rattle.doubles.proofs.Laws.Choice.{and_both}
 use Rattle.doubles.proofs.Laws.Verdict.{spared, then-none}
 use Rattle.designs.specs.Given.{Given}
-use Rattle.designs.specs.Checks.{sizes, contents, sized_fault, targets_fit, room_twice}
+use Rattle.designs.specs.Checks.{sized_fault, room_twice}
 use Rattle.designs.specs.declared.Shape.{Shape}
-use Rattle.definition.specs.Call.{settings_fault, scratch_room, Lent, lent, roomy, handed_fault, early_fault, solve_tests, solve_fault}
+use Rattle.definition.specs.Call.{scratch_room, Lent, lent, roomy, handed_fault, early_fault, solve_tests, solve_fault}
 use Rattle.definition.specs.Call.{End, untouched, given_up, done, solved, task_of, solve_end, report_of, answer, buffers, solve_call, solve_left}
 use Rattle.definition.specs.declared.Settings.{Settings}
 use Rattle.definition.specs.declared.Report.{Report}
-use Rattle.definition.proofs.Laws.Passed.{early as passed_early, passed}
+use Rattle.definition.proofs.Laws.Passed.{passed}
 use Rattle.iterations.specs.Inner.Reading.{end_of, sets_at}
 use Rattle.iterations.specs.declared.Totals.{Totals}
 use Rattle.solvers.specs.Inner.Left.{Leaves, report_from}

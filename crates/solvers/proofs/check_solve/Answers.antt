@@ -36,7 +36,7 @@ pub returns-in_err-tested-clause-fault : goal.returns-in_err-tested-clause-fault
 returns-in_err-tested-clause-fault c =
     let start = (goal.at.returns-in_err-tested-clause-fault c).Start in
     let refused = refused_sized (given start) c.args.settings _ (buffers start) c.in_ok-check_early.ensures _ c.has_room-room.ensures in
-    rw (handed_on _ c.from_residual.ensures.1) (refused _ _ c.in_err-tested.ensures.fault)
+    rw (handed_on _ c.from_residual-in_err-tested.ensures.1) (refused _ _ c.in_err-tested.ensures.fault)
 
 pub check_handed-requires : goal.check_handed-requires
 check_handed-requires c =
@@ -50,7 +50,7 @@ pub returns-in_err-check_handed-clause-fault : goal.returns-in_err-check_handed-
 returns-in_err-check_handed-clause-fault c =
     let start = (goal.at.returns-in_err-check_handed-clause-fault c).Start in
     let last = handed_last (given start) c.args.settings _ (buffers start) c.in_ok-check_early.ensures _ c.has_room-room.ensures in
-    rw (handed_on _ c.from_residual.ensures.1) (last c.in_ok-tested.ensures.fault _ c.in_err-check_handed.ensures)
+    rw (handed_on _ c.from_residual-in_err-check_handed.ensures.1) (last c.in_ok-tested.ensures.fault _ c.in_err-check_handed.ensures)
 
 pub returns-clause-fault : goal.returns-clause-fault
 returns-clause-fault c =
