@@ -47,9 +47,10 @@ fn check(
     let everything = ws.len() == problem.x.matrix.shape.p;
     let v = ws_violation(problem, ws, w, fit)?;
     if is_enough(everything, problem.settings.tolerance, outer, v) {
-        return Ok(Pace::Stopped(counts));
+        Ok(Pace::Stopped(counts))
+    } else {
+        Ok(Pace::Going(counts))
     }
-    Ok(Pace::Going(counts))
 }
 
 // The epoch is counted; with extrapolation on, the weights are kept and the step is tried.
@@ -106,9 +107,10 @@ fn run_epoch(
     cd_epoch(problem, ws, w, fit)?;
     let after = accelerate(problem, e, ws, w, fit, scratch, counts);
     if is_check_due(e) {
-        return check(problem, outer, ws, w, fit, after);
+        check(problem, outer, ws, w, fit, after)
+    } else {
+        Ok(Pace::Going(after))
     }
-    Ok(Pace::Going(after))
 }
 
 // The epochs of one working set.

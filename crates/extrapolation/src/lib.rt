@@ -149,10 +149,11 @@ fn choose(
 {
     if is_better(problem, w, new, before) {
         fit.copy_from_slice(new);
-        return 1;
+        1
+    } else {
+        w.copy_from_slice(old);
+        0
     }
-    w.copy_from_slice(old);
-    0
 }
 
 // The candidate of a solution z of the system is tried; the number accepted.

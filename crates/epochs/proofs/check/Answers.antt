@@ -11,5 +11,5 @@ pub returns-then-is_enough : goal.returns-then-is_enough
 returns-then-is_enough c =
     (λ kept. checked_stops _ _ _ _ _ _ c.in_ok-v.ensures _ _ refl c.is_enough.ensures c.if-is_enough.true, refl)
 
-pub returns : goal.returns
-returns c = (λ kept. checked_goes _ _ _ _ _ _ c.in_ok-v.ensures _ _ refl c.is_enough.ensures c.if-is_enough.false, refl)
+pub returns-else-is_enough : goal.returns-else-is_enough
+returns-else-is_enough c = (λ kept. checked_goes _ _ _ _ _ _ c.in_ok-v.ensures _ _ refl c.is_enough.ensures c.if-is_enough.false, refl)

@@ -17,8 +17,8 @@ returns-then-is_check_due c =
     let checked = epoch-checked (task_in c.args.problem.now) _ _ _ _ _ _ _ _ _ _ _ c.in_ok-cd_epoch.ensures _ _ _ _ e.0 in
     (checked _ c.is_check_due.ensures c.if-is_check_due.true _ (c.check.ensures.0 _), counts.0, counts.1)
 
-pub returns : goal.returns
-returns c =
+pub returns-else-is_check_due : goal.returns-else-is_check_due
+returns-else-is_check_due c =
     let e = c.accelerate-after.ensures in
     let unchecked = epoch_unchecked (task_in c.args.problem.now) _ _ _ _ _ _ _ _ _ _ _ c.in_ok-cd_epoch.ensures _ _ _ _ e.0 in
     (unchecked _ c.is_check_due.ensures c.if-is_check_due.false, e.1, e.2)
