@@ -6,11 +6,11 @@ ghost use Rattle.std.specs.Prelude.{◌≡◌, ℕ, ◌+◌, ◌-◌, ◌*◌, �
 ghost use Rattle.doubles.specs.Num.{#0, at, finite};
 ghost use Rattle.doubles.specs.Steps.{all, tab};
 ghost use Rattle.designs.specs.Design as def;
-ghost use Rattle.designs.specs.declared.Layout.TheVariants.{Dense, Csc};
+ghost use Rattle.designs.specs.declared.Layout.TheVariants.{Csc};
 ghost use Rattle.columns.specs.Inner.RowFit.{row_fit};
 
 use designs::tested::Tested;
-use designs::{Feature, Layout, Matrix, Sample};
+use designs::{Feature, Layout, Matrix, Sample, Shape};
 use doubles::is_finite;
 
 // The sample of a stored entry.
@@ -99,11 +99,10 @@ pub fn stored_of(x: &Tested<'_>, feature: Feature) -> Stored
 
 // ---- column · v
 
-fn dense_dot(x: &Tested<'_>, feature: Feature, v: &[f64]) -> f64
-    requires { (x.now.matrix.shape.layout ≡ Dense) × (feature.0 < x.now.matrix.shape.p) × (x.now.matrix.shape.n ≤ length v.now) }
-    ensures { result ≡ def.dot (def.of_matrix x.now.matrix) feature.0 v.now }
+fn dense_dot(shape: Shape, values: &[f64], feature: Feature, v: &[f64]) -> f64
+    requires { (feature.0 < shape.p) × (shape.n * shape.p ≤ length values.now) × (shape.n ≤ length v.now) }
+    ensures { result ≡ def.dot (def.dense shape.n shape.p values.now) feature.0 v.now }
 {
-    let Matrix { shape, values, .. } = x.matrix;
     let mut s = 0.0;
     for i in 0..shape.n {
         s += values[i * shape.p + feature.0] * v[i];
@@ -130,18 +129,17 @@ pub fn column_dot(x: &Tested<'_>, feature: Feature, v: &[f64]) -> f64
     ensures { result ≡ def.dot (def.of_matrix x.now.matrix) feature.0 v.now }
 {
     match x.matrix.shape.layout {
-        Layout::Dense => dense_dot(x, feature, v),
+        Layout::Dense => dense_dot(x.matrix.shape, x.matrix.values, feature, v),
         Layout::Csc => csc_dot(x, feature, v),
     }
 }
 
 // ---- the fit gains d · column
 
-fn dense_update(x: &Tested<'_>, feature: Feature, d: f64, fit: &mut [f64])
-    requires { (x.now.matrix.shape.layout ≡ Dense) × (feature.0 < x.now.matrix.shape.p) × (x.now.matrix.shape.n ≤ length fit.old) }
-    ensures { fit.new ≡ def.moved (def.of_matrix x.now.matrix) feature.0 d fit.old }
+fn dense_update(shape: Shape, values: &[f64], feature: Feature, d: f64, fit: &mut [f64])
+    requires { (feature.0 < shape.p) × (shape.n * shape.p ≤ length values.now) × (shape.n ≤ length fit.old) }
+    ensures { fit.new ≡ def.moved (def.dense shape.n shape.p values.now) feature.0 d fit.old }
 {
-    let Matrix { shape, values, .. } = x.matrix;
     for i in 0..shape.n {
         fit[i] += d * values[i * shape.p + feature.0];
     }
@@ -165,7 +163,7 @@ pub fn column_update(x: &Tested<'_>, feature: Feature, d: f64, fit: &mut [f64])
     ensures { fit.new ≡ def.moved (def.of_matrix x.now.matrix) feature.0 d fit.old }
 {
     match x.matrix.shape.layout {
-        Layout::Dense => dense_update(x, feature, d, fit),
+        Layout::Dense => dense_update(x.matrix.shape, x.matrix.values, feature, d, fit),
         Layout::Csc => csc_update(x, feature, d, fit),
     }
 }

@@ -3,183 +3,130 @@
 #![tactic(auto)]
 
 ghost use Rattle.std.specs.Prelude.{[], ◌≡◌};
-ghost use Rattle.doubles.specs.Answer.{number_of, verdict_of};
+ghost use Rattle.doubles.specs.Answer.{outcome_of};
 ghost use Rattle.designs.specs.Design as def;
-ghost use Rattle.designs.specs.Given.{given};
+ghost use Rattle.designs.specs.Given.{given, handed};
 ghost use Rattle.designs.specs.Checks as checks';
 ghost use Rattle.datafits.specs.Calls as calls;
 
-use designs::inner::admit;
-use designs::{Feature, Layout, Shape};
-use doubles::inner::both;
-use doubles::{Number, Refusal, Verdict};
+use designs::inner::{admit, check_numbers};
+use designs::{Feature, Matrix, Shape};
+use doubles::{Reason, Refusal};
 
 pub mod inner;
 
 // The constants and X'y into the first 2p places of a lent buffer.
-pub fn initialize(
-    shape: Shape,
-    starts: &[u32],
-    rows: &[u32],
-    values: &[f64],
-    y: &[f64],
-    prepared: &mut [f64],
-) -> Verdict
-    ensures { let g = given shape starts.now rows.now values.now y.now in
-        (verdict_of result ≡ checks'.preparation_fault g prepared.old)
+pub fn initialize(x: &Matrix<'_>, y: &[f64], prepared: &mut [f64]) -> Result<(), Refusal>
+    ensures { let g = handed x.now y.now in
+        (outcome_of result ≡ checks'.preparation_fault g prepared.old)
         × (prepared.new ≡ calls.initialized g prepared.old) }
 {
-    let fits = y.len() == shape.n;
-    let room = inner::room_twice(shape.p, prepared);
-    match admit(shape, starts, rows, values, y, fits, room) {
-        Verdict::Refused(r) => Verdict::Refused(r),
-        Verdict::Fine => {
-            quadratic::initialize(shape, starts, rows, values, y, prepared);
-            Verdict::Fine
-        }
-    }
+    let fits = y.len() == x.shape.n;
+    let room = inner::room_twice(x.shape.p, prepared);
+    let x = admit(x, y, fits, room)?;
+    quadratic::initialize(&x, y, prepared);
+    Ok(())
 }
 
 // The gradient of a feature at a fit.
 pub fn gradient_j(
-    shape: Shape,
-    starts: &[u32],
-    rows: &[u32],
-    values: &[f64],
+    x: &Matrix<'_>,
     prepared: &[f64],
     fit: &[f64],
     feature: Feature,
-) -> Number
-    ensures { let g = given shape starts.now rows.now values.now [] in
-        number_of result ≡ calls.gradient_call g prepared.now fit.now feature.0 }
+) -> Result<f64, Refusal>
+    ensures { let g = handed x.now [] in
+        outcome_of result ≡ calls.gradient_call g prepared.now fit.now feature.0 }
 {
-    let fits = feature.0 < shape.p;
-    let room = both(inner::room_twice(shape.p, prepared), shape.n <= fit.len());
-    match admit(shape, starts, rows, values, &values[..0], fits, room) {
-        Verdict::Refused(r) => Number::Refused(r),
-        Verdict::Fine => Number::Is(quadratic::gradient_j(
-            shape, starts, rows, values, prepared, fit, feature,
-        )),
-    }
+    let Shape { n, p, .. } = x.shape;
+    let room = inner::room_twice(p, prepared) && n <= fit.len();
+    let x = admit(x, &[], feature.0 < p, room)?;
+    Ok(quadratic::gradient_j(&x, prepared, fit, feature))
 }
 
 // The gradients of all features at a fit, into the first p places of a lent buffer.
 pub fn full_grad(
-    shape: Shape,
-    starts: &[u32],
-    rows: &[u32],
-    values: &[f64],
+    x: &Matrix<'_>,
     prepared: &[f64],
     fit: &[f64],
     grad: &mut [f64],
-) -> Verdict
-    ensures { let g = given shape starts.now rows.now values.now [] in
-        (verdict_of result ≡ calls.full_grad_fault g prepared.now fit.now grad.old)
+) -> Result<(), Refusal>
+    ensures { let g = handed x.now [] in
+        (outcome_of result ≡ calls.full_grad_fault g prepared.now fit.now grad.old)
         × (grad.new ≡ calls.full_grad g prepared.now fit.now grad.old) }
 {
-    let buffers = both(shape.n <= fit.len(), shape.p <= grad.len());
-    let room = both(inner::room_twice(shape.p, prepared), buffers);
-    match admit(shape, starts, rows, values, &values[..0], true, room) {
-        Verdict::Refused(r) => Verdict::Refused(r),
-        Verdict::Fine => {
-            quadratic::full_grad(shape, starts, rows, values, prepared, fit, grad);
-            Verdict::Fine
-        }
-    }
+    let Shape { n, p, .. } = x.shape;
+    let buffers = n <= fit.len() && p <= grad.len();
+    let room = inner::room_twice(p, prepared) && buffers;
+    let x = admit(x, &[], true, room)?;
+    quadratic::full_grad(&x, prepared, fit, grad);
+    Ok(())
 }
 
 // The value of the datafit at a fit of the targets.
-pub fn value(y: &[f64], fit: &[f64]) -> Number
-    ensures { number_of result ≡ calls.value_call y.now fit.now }
+pub fn value(y: &[f64], fit: &[f64]) -> Result<f64, Refusal>
+    ensures { outcome_of result ≡ calls.value_call y.now fit.now }
 {
     let n = y.len();
-    if n < 1 {
-        return refused(1);
-    }
-    if 65536 < n {
-        return refused(1);
+    if n < 1 || 65536 < n {
+        return Err(Reason::Sizes.at(0));
     }
     if fit.len() < n {
-        return refused(3);
+        return Err(Reason::Room.at(0));
     }
-    match designs::inner::check_numbers(n, &y[..0], y) {
-        Verdict::Refused(r) => Number::Refused(r),
-        Verdict::Fine => Number::Is(quadratic::value(y, fit)),
-    }
-}
-
-fn refused(number: u32) -> Number
-    ensures { number_of result ≡ Rattle.doubles.specs.Answer.refused number 0 }
-{
-    Number::Refused(Refusal {
-        number: number,
-        place: 0,
-    })
+    check_numbers(n, &[], y)?;
+    Ok(quadratic::value(y, fit))
 }
 
 // The fit gains `diff` times a column.
 pub fn update_model_fit(
-    shape: Shape,
-    starts: &[u32],
-    rows: &[u32],
-    values: &[f64],
+    x: &Matrix<'_>,
     fit: &mut [f64],
     diff: f64,
     feature: Feature,
-) -> Verdict
-    ensures { let g = given shape starts.now rows.now values.now [] in
-        (verdict_of result ≡ calls.update_fault g fit.old feature.0)
+) -> Result<(), Refusal>
+    ensures { let g = handed x.now [] in
+        (outcome_of result ≡ calls.update_fault g fit.old feature.0)
         × (fit.new ≡ calls.updated g fit.old diff feature.0) }
 {
-    let fits = feature.0 < shape.p;
-    let room = shape.n <= fit.len();
-    match admit(shape, starts, rows, values, &values[..0], fits, room) {
-        Verdict::Refused(r) => Verdict::Refused(r),
-        Verdict::Fine => {
-            columns::column_update(shape, starts, rows, values, feature, diff, fit);
-            Verdict::Fine
-        }
-    }
+    let Shape { n, p, .. } = x.shape;
+    let x = admit(x, &[], feature.0 < p, n <= fit.len())?;
+    columns::column_update(&x, feature, diff, fit);
+    Ok(())
 }
 
 // The fit of the weights at a list of features, all others counting as zero, into the first n places of a lent buffer.
 pub fn compute_extrapolated_fit(
-    shape: Shape,
-    starts: &[u32],
-    rows: &[u32],
-    values: &[f64],
+    x: &Matrix<'_>,
     ws: &[u32],
     w: &[f64],
     fit: &mut [f64],
-) -> Verdict
-    ensures { let g = given shape starts.now rows.now values.now [] in
-        (verdict_of result ≡ calls.extrapolated_fault g ws.now w.now fit.old)
+) -> Result<(), Refusal>
+    ensures { let g = handed x.now [] in
+        (outcome_of result ≡ calls.extrapolated_fault g ws.now w.now fit.old)
         × (fit.new ≡ calls.extrapolated_fit g ws.now w.now fit.old) }
 {
-    let fits = both(ws.len() <= shape.p, inner::all_below(ws, shape.p));
-    let room = both(shape.p <= w.len(), shape.n <= fit.len());
-    match admit(shape, starts, rows, values, &values[..0], fits, room) {
-        Verdict::Refused(r) => Verdict::Refused(r),
-        Verdict::Fine => {
-            quadratic::compute_extrapolated_fit(shape, starts, rows, values, ws, w, fit);
-            Verdict::Fine
-        }
-    }
+    let Shape { n, p, .. } = x.shape;
+    let fits = ws.len() <= p && inner::all_below(ws, p);
+    let room = p <= w.len() && n <= fit.len();
+    let x = admit(x, &[], fits, room)?;
+    quadratic::compute_extrapolated_fit(&x, ws, w, fit);
+    Ok(())
 }
 
 // The smallest alpha for which no weight of a dense design leaves zero; X'y is left in the first p places of a lent buffer.
-pub fn compute_alpha_max(n: usize, p: usize, values: &[f64], y: &[f64], xty: &mut [f64]) -> Number
+pub fn compute_alpha_max(
+    n: usize,
+    p: usize,
+    values: &[f64],
+    y: &[f64],
+    xty: &mut [f64],
+) -> Result<f64, Refusal>
     ensures { let g = given (def.dense_shape n p) def.nothing def.nothing values.now y.now in
-        (number_of result ≡ calls.alpha_max_call g xty.old)
+        (outcome_of result ≡ calls.alpha_max_call g xty.old)
         × (xty.new ≡ calls.alpha_max_left g xty.old) }
 {
-    let none = [0u32; 0];
-    let shape = Shape {
-        layout: Layout::Dense,
-        n: n,
-        p: p,
-    };
-    inner::alpha_max(shape, &none, &none, values, y, xty)
+    inner::alpha_max(&Matrix::dense(n, p, values), y, xty)
 }
 
 // The same of a CSC design.
@@ -191,15 +138,10 @@ pub fn compute_alpha_max_sparse(
     values: &[f64],
     y: &[f64],
     xty: &mut [f64],
-) -> Number
+) -> Result<f64, Refusal>
     ensures { let g = given (def.csc_shape n p) starts.now rows.now values.now y.now in
-        (number_of result ≡ calls.alpha_max_call g xty.old)
+        (outcome_of result ≡ calls.alpha_max_call g xty.old)
         × (xty.new ≡ calls.alpha_max_left g xty.old) }
 {
-    let shape = Shape {
-        layout: Layout::Csc,
-        n: n,
-        p: p,
-    };
-    inner::alpha_max(shape, starts, rows, values, y, xty)
+    inner::alpha_max(&Matrix::csc(n, p, starts, rows, values), y, xty)
 }

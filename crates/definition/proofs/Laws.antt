@@ -8,3 +8,4 @@ pub mod Ends
 pub mod Left
 pub mod Pair
 pub mod Walk
+pub mod Problem

@@ -9,9 +9,6 @@ use crate::Matrix;
 #[derive(Clone, Copy, Drop)]
 pub struct Tested<'a> {
     pub matrix: Matrix<'a>,
-    // n and p are within their limits.
-    pub ghost few: { matrix.shape.n ≤ 65536 },
-    pub ghost narrow: { matrix.shape.p ≤ 8192 },
     // The slices are those of the layout.
     pub ghost dense: { matrix.shape.layout ≡ Dense → matrix.shape.n * matrix.shape.p ≤ length matrix.values.now },
     pub ghost csc: { matrix.shape.layout ≡ Csc → Sound matrix.shape.n matrix.shape.p matrix.starts.now matrix.rows.now matrix.values.now } by { Prim.hlevel props },

@@ -8,6 +8,8 @@ use Rattle.std.specs.Prelude.{Result, Ok, Err}
 use Rattle.doubles.specs.Answer.{Outcome, refused, number, outcome_of}
 use Rattle.doubles.specs.declared.Reason.{Reason}
 use Rattle.doubles.specs.declared.Refusal.{Refusal}
+use Rattle.doubles.proofs.Reason.at.Reads as at_reads
+use Rattle.doubles.proofs.Refusal.number.Reads as number_reads
 use Rattle.doubles.proofs.abs.Reads as abs_reads
 use Rattle.doubles.proofs.signum.Reads as signum_reads
 use Rattle.doubles.proofs.is_finite.Reads as is_finite_reads
@@ -56,6 +58,12 @@ one_outcome (Ok x) (Err s) e = cc
 one_outcome (Ok x) (Ok y) e = cc
 
 -- ---- the public calls
+at_tight : (a : _) (r r' : Refusal) (s : _) → at_reads.Post tt a r s → at_reads.Post tt a r' s → r ≡ r'
+at_tight a r r' s p q = coincide p q
+
+number_tight : (a : _) (r r' : ℕ) (s : _) → number_reads.Post tt a r s → number_reads.Post tt a r' s → r ≡ r'
+number_tight a r r' s p q = coincide p q
+
 abs_tight : (a : _) (r r' : Float) (s : _) → abs_reads.Post tt a r s → abs_reads.Post tt a r' s → r ≡ r'
 abs_tight a r r' s p q = coincide p q
 

@@ -7,7 +7,7 @@ use mathlib.Core.List.{List}
 use Prim.Native.Nat.{ℕ, zero, suc, ◌+◌, ◌-◌, ◌≤◌, ◌<◌, zero-le}
 use native.Mathlib.Nat.{add-zero, add-suc}
 use native.Mathlib.Omega.{arith}
-use borrow.Author.Tests.{leb-true, leb-false, eqb-true, le-leb, eq-eqb, ne_eqb}
+use borrow.Author.Tests.{leb-true, leb-false, le-leb, ne_eqb}
 use lib.Dec.{leb, eqb}
 use lib.ListN.{length, take}
 use lib.Ieee.{Float, lt}
@@ -24,8 +24,7 @@ use Rattle.penalties.specs.declared.separable.Penalty.{Penalty}
 use Rattle.penalties.proofs.Alpha.{alpha_again}
 use Rattle.designs.specs.Given.{Given}
 use Rattle.designs.specs.Search.{or_else, mark}
-use Rattle.designs.specs.declared.Found.{Found}
-use Rattle.designs.specs.declared.Found.TheVariants.{At, Nowhere}
+use Rattle.std.specs.Prelude.{Option, Some, None}
 use Rattle.definition.specs.WorkingSet.{nonzeros}
 use Rattle.definition.specs.Run.{State}
 use Rattle.definition.specs.Preparation.{prepare_left}
@@ -36,11 +35,18 @@ use Rattle.definition.specs.Walk.{end_at}
 use Rattle.definition.specs.Walk.{walk_end, placed, placed_at, walk_call, walk_left, walk_numbers}
 use Rattle.definition.specs.declared.Settings.{Settings}
 use Rattle.definition.specs.declared.Report.{Report}
+use Rattle.definition.specs.declared.Status.{Status}
+use Rattle.definition.specs.declared.Status.TheVariants.{Met, Spent}
+use Rattle.definition.specs.Status.{is_met}
 use Rattle.definition.specs.declared.Usable.{Usable}
 use Rattle.definition.proofs.Laws.Pair.{pair_done}
 use Rattle.definition.proofs.Laws.Walk.{room_alpha, same_answer, same-buffers, passed, walk_most, usable-done, Chosen, chosen, not-usable}
 use Rattle.endings.specs.Eleven.{settings_at, Property, AsAlone, Eleven}
 use Rattle.endings.proofs.Completed.{completed}
+
+is_met-true : (s : Status) → is_met s ≡ true → s ≡ Met
+is_met-true Met e = refl
+is_met-true Spent e = absurd (false≢true e)
 
 module _ (g : Given) (S : Settings) (alphas : List Float) (most : ℕ) (buf : List Float) (b : Lent) where
   abbrev fits : ℕ → End
@@ -65,21 +71,21 @@ module _ (g : Given) (S : Settings) (alphas : List Float) (most : ℕ) (buf : Li
   unfolding fit_at pair_call
   answered_so k s e = same_answer S (at alphas k) (fits k) ∙ ap (answer S) e
 
-  is_wanted : (r : Report) (nonzero : ℕ) → r.status ≡ 1 → nonzero ≤ most → wanted most r nonzero ≡ true
+  is_wanted : (r : Report) (nonzero : ℕ) → r.status ≡ Met → nonzero ≤ most → wanted most r nonzero ≡ true
   unfolding wanted ◌and◌
-  is_wanted r nonzero e l = rw (eq-eqb _ _ e, le-leb _ _ l)
+  is_wanted r nonzero e l = rw (e, le-leb _ _ l)
 
   has : (k : ℕ) → k < length alphas → usable_fit S most (fits k) ≡ true → Has k
   unfolding wanted
   has k l u =
       let d = usable-done S most (fits k) u in
       let s = d.state in
-      let w = and_both (eqb (report_of S s).status 1) (leb (nonzeros s.inner.point.weights) most) (rw d.ends at u) in
+      let w = and_both (is_met (report_of S s).status) (leb (nonzeros s.inner.point.weights) most) (rw d.ends at u) in
       record {
         inside = l;
         report = report_of S s;
         answers = answered_so k s d.ends;
-        met = eqb-true _ _ w.0;
+        met = is_met-true _ w.0;
         few = rw (first-weights k s d.ends) (leb-true _ _ w.1);
       }
 
@@ -130,7 +136,7 @@ module _ (g : Given) (S : Settings) (alphas : List Float) (most : ℕ) (buf : Li
   pub data How : Type 0 where
     by_tests : (number place : ℕ) → walk_tests g S alphas buf b ≡ refused number place → walk_call g S alphas most buf b ≡ refused number place
         → walk_end g S alphas most buf b ≡ untouched number place → How
-    by-none : walk_tests g S alphas buf b ≡ none → position g S alphas most buf b ≡ Nowhere → walk_call g S alphas most buf b ≡ refused 11 0
+    by-none : walk_tests g S alphas buf b ≡ none → position g S alphas most buf b ≡ None → walk_call g S alphas most buf b ≡ refused 11 0
         → walk_end g S alphas most buf b ≡ given_up 11 0 → How
     by-fit : walk_tests g S alphas buf b ≡ none → (k : ℕ) → Chosen S most fits (length alphas) k → (s : State) → fits k ≡ done s
         → walk_call g S alphas most buf b ≡ answered (record { position = k; report = report_of S s }) → walk_end g S alphas most buf b ≡ fits k → How
@@ -139,14 +145,14 @@ module _ (g : Given) (S : Settings) (alphas : List Float) (most : ℕ) (buf : Li
   unfolding walk_call walk_end
   how = go (walk_tests g S alphas buf b) refl (position g S alphas most buf b) refl
     where
-      refused-at : (number place : ℕ) (f : Found) → placed_at f (refused number place) ≡ refused number place
-      refused-at number place (At k) = refl
-      refused-at number place Nowhere = refl
+      refused-at : (number place : ℕ) (f : Option ℕ) → placed_at f (refused number place) ≡ refused number place
+      refused-at number place (Some k) = refl
+      refused-at number place None = refl
 
-      go : (f : Fault) → walk_tests g S alphas buf b ≡ f → (p : Found) → position g S alphas most buf b ≡ p → How
+      go : (f : Fault) → walk_tests g S alphas buf b ≡ f → (p : Option ℕ) → position g S alphas most buf b ≡ p → How
       go (refused number place) e p q = by_tests number place e (rw e (refused-at number place (position g S alphas most buf b))) (rw e)
-      go (answered u) e Nowhere q = by-none e q (rw (e, q)) (rw (e, q))
-      go (answered u) e (At k) q =
+      go (answered u) e None q = by-none e q (rw (e, q)) (rw (e, q))
+      go (answered u) e (Some k) q =
           let c = chosen S most fits (length alphas) k (unfold position in q) in
           let d = usable-done S most (fits k) c.usable in
           by-fit e k c d.state d.ends (rw (e, q) (ap (λ (x : End). placed k (answer S x)) d.ends)) (rw (e, q))
@@ -265,16 +271,16 @@ module _ (g : Given) (S : Settings) (alphas : List Float) (most : ℕ) (buf : Li
     position-same : position g S' alphas most buf b ≡ position g S alphas most buf b
     unfolding position first_usable
     position-same =
-        steps-same _ _ (length alphas) Nowhere
+        steps-same _ _ (length alphas) None
         (λ k l r. ap (λ (x : Bool). or_else r (mark x k)) (usable_same (fit_at g S' alphas buf b k) ∙ ap (usable_fit S most) (fits-same k)))
 
     end_same : walk_end g S' alphas most buf b ≡ walk_end g S alphas most buf b
     unfolding walk_end
     end_same = rw (tests_same, position-same) (ap (behind (walk_tests g S alphas buf b)) (go (position g S alphas most buf b)))
       where
-        go : (f : Found) → end_at (fit_at g S' alphas buf b) f ≡ end_at fits f
-        go (At k) = fits-same k
-        go Nowhere = refl
+        go : (f : Option ℕ) → end_at (fit_at g S' alphas buf b) f ≡ end_at fits f
+        go (Some k) = fits-same k
+        go None = refl
 
     unused : (walk_call g S' alphas most buf b ≡ walk_call g S alphas most buf b)
         × (walk_left g S' alphas most buf b ≡ walk_left g S alphas most buf b)

@@ -11,8 +11,7 @@ use Rattle.doubles.proofs.Laws.Ends.{refused≢answered}
 use Rattle.designs.specs.Given.{Given}
 use Rattle.designs.specs.Search.{first_of, mark}
 use Rattle.designs.specs.Checks.{told}
-use Rattle.designs.specs.declared.Found.{Found}
-use Rattle.designs.specs.declared.Found.TheVariants.{At, Nowhere}
+use Rattle.std.specs.Prelude.{Option, Some, None}
 use Rattle.designs.proofs.Laws.Search.{marked, unmarked, none_first, first_here, FirstAt, first_found}
 use Rattle.definition.specs.Call.{Lent, acceptable_at, handed_fault, solve_tests, solve_fault, solve_end, solve_call, solve_left}
 use Rattle.definition.specs.declared.Settings.{Settings}
@@ -22,7 +21,7 @@ use Rattle.endings.specs.Ten.{FirstSuch, Ten}
 
 -- ---- the search
 module _ (p : ℕ) (handed : List Float) where
-  abbrev such : ℕ → Found
+  abbrev such : ℕ → Option ℕ
   such j = mark (not (acceptable_at p handed j)) j
 
   found : (place : ℕ) → handed_fault p handed ≡ refused 10 place → FirstSuch p handed place
@@ -34,9 +33,9 @@ module _ (p : ℕ) (handed : List Float) where
           let m = marked (not (acceptable_at p handed f.spot)) f.spot k f.here in
           rw (← m.1) (record { column = f.inside; fails = not-true _ m.0; before = λ j l. is-not _ (unmarked _ j (f.before j l)) })
 
-      go : (r : Found) → first_of such p ≡ r → told 10 r none ≡ refused 10 place → FirstSuch p handed place
-      go (At k) q e = let n : k ≡ place = cc in rw (← n) (first k (first_found such p k q))
-      go Nowhere q e = absurd (refused≢answered (sym e))
+      go : (r : Option ℕ) → first_of such p ≡ r → told 10 r none ≡ refused 10 place → FirstSuch p handed place
+      go (Some k) q e = let n : k ≡ place = cc in rw (← n) (first k (first_found such p k q))
+      go None q e = absurd (refused≢answered (sym e))
 
   finds : (place : ℕ) → FirstSuch p handed place → handed_fault p handed ≡ refused 10 place
   unfolding handed_fault

@@ -11,6 +11,7 @@ use Rattle.definition.specs.Call.{Lent, filled}
 use Rattle.definition.specs.Pair.{pair_call, pair_left}
 use Rattle.definition.specs.Walk.{at_alpha, walk_tests, walk_call, walk_left, walk_numbers}
 use Rattle.definition.specs.declared.Settings.{Settings}
+use Rattle.definition.specs.declared.Status.TheVariants.{Met}
 use Rattle.definition.specs.declared.Report.{Report}
 use Rattle.definition.specs.declared.Usable.{Usable}
 
@@ -24,7 +25,7 @@ module _ (g : Given) (S : Settings) (alphas : List Float) (most : ℕ) (buf : Li
     pub inside : k < length alphas
     pub report : Report
     pub answers : pair_call g (settings_at k) buf b ≡ answered report
-    pub met : report.status ≡ 1
+    pub met : report.status ≡ Met
     pub few : nonzeros (take g.shape.p (pair_left g (settings_at k) buf b).weights) ≤ most
 
   -- an answer: "the largest that gives at most m nonzero weights with status 1", "the position in the list with its weights, fit and report"

@@ -2,7 +2,7 @@
 // rest is the extrapolation's.
 #![tactic(auto)]
 
-ghost use Rattle.std.specs.Prelude.{◌≡◌, List, ◌+◌, ◌≤◌, length};
+ghost use Rattle.std.specs.Prelude.{◌≡◌, true, List, ◌+◌, ◌≤◌, length};
 ghost use Rattle.definition.specs.Inner.Problem.{task_in};
 ghost use Rattle.definition.specs.Run as def;
 ghost use Rattle.extrapolation.specs.Inner.Places.{point_with};
@@ -12,6 +12,7 @@ use decisions::{is_check_due, is_enough};
 use definition::problem::Problem;
 use doubles::NotFinite;
 use extrapolation::anderson_accel;
+use extrapolation::step::Step;
 use visits::{cd_epoch, ws_violation};
 
 // What is counted within the working sets.
@@ -45,11 +46,24 @@ fn check(
         × (here.counts_of result counts ≡ counts) }
 {
     let everything = ws.len() == problem.x.matrix.shape.p;
-    let v = ws_violation(problem, ws, w, fit)?;
+    let v = ws_violation(&problem.task(), ws, w, fit)?;
     if is_enough(everything, problem.settings.tolerance, outer, v) {
         Ok(Pace::Stopped(counts))
     } else {
         Ok(Pace::Going(counts))
+    }
+}
+
+// What the extrapolation looks at, where it is on.
+fn step_of<'a>(problem: &Problem<'a>) -> Step<'a>
+    requires { problem.now.settings.extrapolate ≡ true }
+    ensures { here.IsStepOf problem.now result }
+{
+    Step {
+        x: problem.x,
+        y: problem.y,
+        penalty: problem.settings.penalty,
+        depth: problem.settings.depth,
     }
 }
 
@@ -78,7 +92,7 @@ fn accelerate(
     if !problem.settings.extrapolate {
         return counted;
     }
-    let taken = anderson_accel(problem, e, ws, w, fit, scratch);
+    let taken = anderson_accel(&step_of(problem), e, ws, w, fit, scratch);
     Counts {
         extrapolations: counts.extrapolations + taken,
         ..counted
@@ -104,7 +118,7 @@ fn run_epoch(
         × ((here.counts_of result counts).epochs ≤ counts.epochs + 1)
         × ((here.counts_of result counts).extrapolations ≤ counts.extrapolations + 1) }
 {
-    cd_epoch(problem, ws, w, fit)?;
+    cd_epoch(&problem.task(), ws, w, fit)?;
     let after = accelerate(problem, e, ws, w, fit, scratch, counts);
     if is_check_due(e) {
         check(problem, outer, ws, w, fit, after)

@@ -15,11 +15,11 @@ ghost use Rattle.worksets.specs.Call as sets;
 ghost use Rattle.plain_numbers.specs.Codes as codes;
 ghost use Rattle.plain_numbers.specs.Codes.{number_in, place_in, answer_in};
 
+use designs::Matrix;
 use penalties::prox_funcs::soft_thresholding;
 use penalties::separable;
 use plain_numbers::{
-    csc, dense, penalty_of, prox_of, settings_of, tell, tell_number, tell_size, tell_verdict,
-    tell_walk,
+    penalty_of, prox_of, settings_of, tell, tell_number, tell_size, tell_verdict, tell_walk,
 };
 use preparation::prepare;
 use solvers::solve;
@@ -42,8 +42,7 @@ pub extern "C" fn koyramutey_prepare_dense(
         let answer = prep.prepare_call g prepared.old in
         (result ≡ number_in answer) × (place.new ≡ place_in answer) × (prepared.new ≡ prep.prepare_left g prepared.old) }
 {
-    let none = [0u32; 0];
-    let verdict = prepare(dense(n, p), &none, &none, values, y, prepared);
+    let verdict = prepare(&Matrix::dense(n, p, values), y, prepared);
     tell_verdict(verdict, place)
 }
 
@@ -63,7 +62,7 @@ pub extern "C" fn koyramutey_prepare_csc(
         let answer = prep.prepare_call g prepared.old in
         (result ≡ number_in answer) × (place.new ≡ place_in answer) × (prepared.new ≡ prep.prepare_left g prepared.old) }
 {
-    let verdict = prepare(csc(n, p), starts, rows, values, y, prepared);
+    let verdict = prepare(&Matrix::csc(n, p, starts, rows, values), y, prepared);
     tell_verdict(verdict, place)
 }
 
@@ -105,7 +104,6 @@ pub extern "C" fn koyramutey_solve_dense(
         codes.reply result place.new new (call.lent w.new fit.new indices.new scratch.new)
         ≡ codes.solve_reply g settings prepared.now b old }
 {
-    let none = [0u32; 0];
     let settings = settings_of(
         penalty,
         alpha,
@@ -118,10 +116,7 @@ pub extern "C" fn koyramutey_solve_dense(
         depth,
     );
     let done = solve(
-        dense(n, p),
-        &none,
-        &none,
-        values,
+        &Matrix::dense(n, p, values),
         y,
         prepared,
         settings,
@@ -183,10 +178,7 @@ pub extern "C" fn koyramutey_solve_csc(
         depth,
     );
     let done = solve(
-        csc(n, p),
-        starts,
-        rows,
-        values,
+        &Matrix::csc(n, p, starts, rows, values),
         y,
         prepared,
         settings,
@@ -240,7 +232,6 @@ pub extern "C" fn koyramutey_walk_dense(
         codes.told result place.new (codes.usable position.new new) left prepared.new
         ≡ codes.walk_reply g settings alphas.now most prepared.old b (codes.usable position.old old) }
 {
-    let none = [0u32; 0];
     let settings = settings_of(
         penalty,
         0.0,
@@ -253,10 +244,7 @@ pub extern "C" fn koyramutey_walk_dense(
         depth,
     );
     let walked = walk(
-        dense(n, p),
-        &none,
-        &none,
-        values,
+        &Matrix::dense(n, p, values),
         y,
         alphas,
         prepared,
@@ -325,10 +313,7 @@ pub extern "C" fn koyramutey_walk_csc(
         depth,
     );
     let walked = walk(
-        csc(n, p),
-        starts,
-        rows,
-        values,
+        &Matrix::csc(n, p, starts, rows, values),
         y,
         alphas,
         prepared,
@@ -363,8 +348,7 @@ pub extern "C" fn koyramutey_full_grad_dense(
         × (place.new ≡ place_in fault)
         × (grad.new ≡ calls.full_grad g prepared.now fit.now grad.old) }
 {
-    let none = [0u32; 0];
-    let verdict = datafits::full_grad(dense(n, p), &none, &none, values, prepared, fit, grad);
+    let verdict = datafits::full_grad(&Matrix::dense(n, p, values), prepared, fit, grad);
     tell_verdict(verdict, place)
 }
 

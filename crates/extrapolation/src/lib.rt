@@ -1,23 +1,24 @@
 // Inner functions of the extrapolation: the candidate, and whether it is taken.
 #![tactic(auto)]
 
-ghost use Rattle.std.specs.Prelude.{◌≡◌, true, ℕ, suc, ◌*◌, ◌<◌, ◌≤◌, length, get_or};
+ghost use Rattle.std.specs.Prelude.{◌≡◌, List, ℕ, suc, ◌*◌, ◌<◌, ◌≤◌, length, get_or};
 ghost use Rattle.std.specs.Float.Ieee.{lt};
 ghost use Rattle.doubles.specs.Num as num;
 ghost use Rattle.doubles.specs.Steps.{sum};
 ghost use Rattle.doubles.specs.Buffer.{put};
 ghost use Rattle.designs.specs.Design as def;
 ghost use Rattle.definition.specs.Extrapolation as ext;
-ghost use Rattle.definition.specs.Inner.Problem.{task_in};
 ghost use Rattle.extrapolation.specs.Inner.Places as places;
 
+use crate::step::Step;
 use columns::{all_finite, clear, extrapolated_fit, set_weight};
-use definition::problem::Problem;
 use designs::{Feature, Shape};
 use elimination::inner::System;
 use history::{Kept, combined, keep, system};
 use penalties::inner::value as penalty_value;
 use quadratic::value as datafit_value;
+
+pub mod step;
 
 // ---- the candidate
 
@@ -59,20 +60,20 @@ fn write_candidate(kept: &[f64], shape: Kept, c: [f64; 10], ws: &[u32], w: &mut 
 
 // ---- which point is better
 
-fn objective(problem: &Problem<'_>, w: &[f64], fit: &[f64]) -> f64
-    requires { length fit.now ≡ problem.now.x.matrix.shape.n }
-    ensures { result ≡ ext.objective_of problem.now.settings.penalty problem.now.y.now w.now fit.now }
+fn objective(step: &Step<'_>, w: &[f64], fit: &[f64]) -> f64
+    requires { length fit.now ≡ step.now.x.matrix.shape.n }
+    ensures { result ≡ ext.objective_of step.now.penalty step.now.y.now w.now fit.now }
 {
-    datafit_value(problem.y, fit) + penalty_value(problem.settings.penalty, w)
+    datafit_value(step.y, fit) + penalty_value(step.penalty, w)
 }
 
 // Strictly smaller objective, and finite.
-fn is_better(problem: &Problem<'_>, w: &[f64], fit: &[f64], before: f64) -> bool
-    requires { length fit.now ≡ problem.now.x.matrix.shape.n }
-    ensures { let smaller = lt (ext.objective_of problem.now.settings.penalty problem.now.y.now w.now fit.now) before in
+fn is_better(step: &Step<'_>, w: &[f64], fit: &[f64], before: f64) -> bool
+    requires { length fit.now ≡ step.now.x.matrix.shape.n }
+    ensures { let smaller = lt (ext.objective_of step.now.penalty step.now.y.now w.now fit.now) before in
         result ≡ num.◌and◌ smaller (num.◌and◌ (ext.all_finite w.now) (ext.all_finite fit.now)) }
 {
-    objective(problem, w, fit) < before && all_finite(w) && all_finite(fit)
+    objective(step, w, fit) < before && all_finite(w) && all_finite(fit)
 }
 
 // ---- the step
@@ -88,12 +89,11 @@ pub struct Parts {
     pub end: usize,
 }
 
-fn lay_out(problem: &Problem<'_>) -> Parts
-    requires { problem.now.settings.extrapolate ≡ true }
-    ensures { places.Laid problem.now result.kept result.until result.old result.fit result.end }
+fn lay_out(step: &Step<'_>) -> Parts
+    ensures { places.Laid step.now result.kept result.until result.old result.fit result.end }
 {
-    let Shape { n, p, .. } = problem.x.matrix.shape;
-    let depth = problem.settings.depth;
+    let Shape { n, p, .. } = step.x.matrix.shape;
+    let depth = step.depth;
     let kept = p;
     let old = (2 * depth + 2) * p;
     let fit = old + p;
@@ -107,47 +107,41 @@ fn lay_out(problem: &Problem<'_>) -> Parts
 }
 
 // The weights are put by, the candidate takes their place, and its fit is computed.
-fn make_candidate(
-    problem: &Problem<'_>,
-    c: [f64; 10],
-    ws: &[u32],
-    w: &mut [f64],
-    scratch: &mut [f64],
-)
-    requires { places.Sized problem.now ws.now w.old scratch.old }
-    ensures { let x = problem.now.x.matrix in
-        let depth = problem.now.settings.depth in
+fn make_candidate(step: &Step<'_>, c: [f64; 10], ws: &[u32], w: &mut [f64], scratch: &mut [f64])
+    requires { places.Sized step.now ws.now w.old scratch.old }
+    ensures { let x = step.now.x.matrix in
+        let depth = step.now.depth in
         let new = def.extrapolated (def.of_matrix x) ws.now w.new in
         (w.new ≡ ext.candidate depth x.shape.p ws.now (places.kept_in x.shape depth scratch.old) c)
         × (scratch.new ≡ put (put scratch.old (places.old_at x.shape depth) w.old) (places.fit_at x.shape depth) new)
         × (length new ≡ x.shape.n) }
 {
     let kept = Kept {
-        depth: problem.settings.depth,
-        p: problem.x.matrix.shape.p,
+        depth: step.depth,
+        p: step.x.matrix.shape.p,
     };
-    let at = lay_out(problem);
+    let at = lay_out(step);
     scratch[at.old..at.fit].copy_from_slice(w);
     write_candidate(&scratch[at.kept..at.until], kept, c, ws, w);
-    extrapolated_fit(&problem.x, ws, w, &mut scratch[at.fit..at.end]);
+    extrapolated_fit(&step.x, ws, w, &mut scratch[at.fit..at.end]);
 }
 
 // The candidate keeps its place and its fit replaces the fit if it is better, else the weights come back; the number accepted, 0 or 1.
 fn choose(
-    problem: &Problem<'_>,
+    step: &Step<'_>,
     before: f64,
     old: &[f64],
     new: &[f64],
     w: &mut [f64],
     fit: &mut [f64],
 ) -> usize
-    requires { (length new.now ≡ problem.now.x.matrix.shape.n) × (length fit.old ≡ length new.now)
+    requires { (length new.now ≡ step.now.x.matrix.shape.n) × (length fit.old ≡ length new.now)
         × (length w.old ≡ length old.now) }
     ensures { let candidate = places.point_with w.old new.now in
         places.tried_of result w.new fit.new
-        ≡ places.chosen_by problem.now.settings.penalty problem.now.y.now before candidate (places.point_with old.now fit.old) }
+        ≡ places.chosen_by step.now.penalty step.now.y.now before candidate (places.point_with old.now fit.old) }
 {
-    if is_better(problem, w, new, before) {
+    if is_better(step, w, new, before) {
         fit.copy_from_slice(new);
         1
     } else {
@@ -158,26 +152,26 @@ fn choose(
 
 // The candidate of a solution z of the system is tried; the number accepted.
 fn try_candidate(
-    problem: &Problem<'_>,
+    step: &Step<'_>,
     z: [f64; 10],
     ws: &[u32],
     w: &mut [f64],
     fit: &mut [f64],
     scratch: &mut [f64],
 ) -> usize
-    requires { places.StepReady problem.now ws.now w.old fit.old scratch.old }
-    ensures { let depth = problem.now.settings.depth in
-        let kept = places.kept_in problem.now.x.matrix.shape depth scratch.old in
+    requires { places.StepReady step.now ws.now w.old fit.old scratch.old }
+    ensures { let depth = step.now.depth in
+        let kept = places.kept_in step.now.x.matrix.shape depth scratch.old in
         let before = places.point_with w.old fit.old in
-        (places.tried_of result w.new fit.new ≡ places.tried_from (task_in problem.now) problem.now.y.now depth ws.now kept z before)
-        × (places.kept_in problem.now.x.matrix.shape depth scratch.new ≡ kept) }
+        ((q : List _) → places.tried_of result w.new fit.new ≡ places.tried_from (places.task_with step.now q) step.now.y.now depth ws.now kept z before)
+        × (places.kept_in step.now.x.matrix.shape depth scratch.new ≡ kept) }
 {
-    let at = lay_out(problem);
-    let c = coefficients(z, problem.settings.depth);
-    let before = objective(problem, w, fit);
-    make_candidate(problem, c, ws, w, scratch);
+    let at = lay_out(step);
+    let c = coefficients(z, step.depth);
+    let before = objective(step, w, fit);
+    make_candidate(step, c, ws, w, scratch);
     choose(
-        problem,
+        step,
         before,
         &scratch[at.old..at.fit],
         &scratch[at.fit..at.end],
@@ -188,25 +182,25 @@ fn try_candidate(
 
 // The extrapolation from K+1 kept rows; the number accepted.
 fn extrapolate(
-    problem: &Problem<'_>,
+    step: &Step<'_>,
     ws: &[u32],
     w: &mut [f64],
     fit: &mut [f64],
     scratch: &mut [f64],
 ) -> usize
-    requires { places.StepReady problem.now ws.now w.old fit.old scratch.old }
-    ensures { let depth = problem.now.settings.depth in
-        let kept = places.kept_in problem.now.x.matrix.shape depth scratch.old in
+    requires { places.StepReady step.now ws.now w.old fit.old scratch.old }
+    ensures { let depth = step.now.depth in
+        let kept = places.kept_in step.now.x.matrix.shape depth scratch.old in
         let before = places.point_with w.old fit.old in
-        (places.tried_of result w.new fit.new ≡ ext.extrapolate (task_in problem.now) problem.now.y.now depth ws.now kept before)
-        × (places.kept_in problem.now.x.matrix.shape depth scratch.new ≡ kept) }
+        ((q : List _) → places.tried_of result w.new fit.new ≡ ext.extrapolate (places.task_with step.now q) step.now.y.now depth ws.now kept before)
+        × (places.kept_in step.now.x.matrix.shape depth scratch.new ≡ kept) }
 {
-    let depth = problem.settings.depth;
+    let depth = step.depth;
     let kept = Kept {
         depth,
-        p: problem.x.matrix.shape.p,
+        p: step.x.matrix.shape.p,
     };
-    let at = lay_out(problem);
+    let at = lay_out(step);
     let mut m = System {
         rows: system(&scratch[at.kept..at.until], kept, ws.len()),
         size: depth,
@@ -215,37 +209,37 @@ fn extrapolate(
     if !m.is_regular() {
         return 0;
     }
-    try_candidate(problem, m.solution(), ws, w, fit, scratch)
+    try_candidate(step, m.solution(), ws, w, fit, scratch)
 }
 
 // After the visits of epoch e: the weights are kept as row e mod (K+1), and where that is the last row, the extrapolation is tried; the number
 // accepted.
 pub fn anderson_accel(
-    problem: &Problem<'_>,
+    step: &Step<'_>,
     e: usize,
     ws: &[u32],
     w: &mut [f64],
     fit: &mut [f64],
     scratch: &mut [f64],
 ) -> usize
-    requires { places.StepReady problem.now ws.now w.old fit.old scratch.old }
-    ensures { let depth = problem.now.settings.depth in
-        let kept = places.kept_then problem.now.x.matrix.shape depth e ws.now w.old scratch.old in
+    requires { places.StepReady step.now ws.now w.old fit.old scratch.old }
+    ensures { let depth = step.now.depth in
+        let kept = places.kept_then step.now.x.matrix.shape depth e ws.now w.old scratch.old in
         let before = places.point_with w.old fit.old in
-        (places.tried_of result w.new fit.new ≡ ext.tried (task_in problem.now) problem.now.y.now depth e ws.now kept before)
-        × (places.kept_in problem.now.x.matrix.shape depth scratch.new ≡ kept) }
+        ((q : List _) → places.tried_of result w.new fit.new ≡ ext.tried (places.task_with step.now q) step.now.y.now depth e ws.now kept before)
+        × (places.kept_in step.now.x.matrix.shape depth scratch.new ≡ kept) }
 {
-    let depth = problem.settings.depth;
+    let depth = step.depth;
     let row = e % (depth + 1);
-    let at = lay_out(problem);
+    let at = lay_out(step);
     keep(
         ws,
         w,
-        row * problem.x.matrix.shape.p,
+        row * step.x.matrix.shape.p,
         &mut scratch[at.kept..at.until],
     );
     if row != depth {
         return 0;
     }
-    extrapolate(problem, ws, w, fit, scratch)
+    extrapolate(step, ws, w, fit, scratch)
 }

@@ -27,7 +27,7 @@ use Rattle.files.specs.Problem.{known_tag, element_size, stored, good_field, goo
 use Rattle.files.specs.Call.{Problem, problem, read_whole, parsed}
 use Rattle.files.specs.Written.{bytes, field, design_code, penalty_code, extrapolate_code, second_of, bytes_of, bytes32}
 use Rattle.files.specs.Written.{header, sparse, written, Double, AllDoubles, Word, AllWords, OwnDoubles, Fitting}
-use Rattle.files.proofs.Laws.Walk.{at-end, one_more}
+use Rattle.files.proofs.Laws.Walk.{at-end, one_more, begin}
 use Rattle.files.proofs.Laws.Lies.{Lies, lies_first, lies_behind, lies_length, byte_there, u16_there, u16-back}
 use Rattle.files.proofs.Laws.Lies.{u32-back, f64-back, doubles-long, words_long, doubles-back, words_back}
 
@@ -263,9 +263,6 @@ module _ (f : List ℕ) (few : length f ≤ 49152) where
         (words-next l g) refl
 
 -- ---- the header was read
-abbrev begin : Read
-begin = record { at = 51; tag = 1; targets = []; values = []; starts = []; rows = [] }
-
 header-next : (a : Shape) (s : Settings) (rest : List ℕ) → next_read (headed a s rest) nothing_read ≡ begin
 unfolding next_read field header bytes u16
 header-next a s rest = refl

@@ -8,7 +8,6 @@ use Rattle.designs.specs.Given.{Given, given}
 use Rattle.definition.specs.declared.Settings.{Settings}
 use Rattle.files.specs.Problem.{Read, read_all, header_shape, header_settings}
 use Rattle.files.specs.declared.Sizes.{Sizes}
-use Rattle.files.specs.declared.Parsed.{Parsed}
 
 pub record Problem : Type 0 where
   pub given : Given
@@ -48,15 +47,17 @@ with_room room (answered p) = pick room (answered p) (refused 3 0)
 unfoldable pub read_problem : List ℕ → Places → Outcome Problem
 read_problem f b = with_room (places_suffice b) (parsed f)
 
--- the answer has the problem's numbers, and how many places each array has
+-- the answer has the problem's numbers, and how many elements each array has
 abbrev pub sizes_of : Problem → Sizes
 sizes_of p = record {
   shape = p.given.shape;
   settings = p.settings;
-  targets = length p.given.targets;
-  values = length p.given.values;
-  starts = length p.given.starts;
-  rows = length p.given.rows;
+  counts = record {
+    targets = length p.given.targets;
+    values = length p.given.values;
+    starts = length p.given.starts;
+    rows = length p.given.rows;
+  };
 }
 
 abbrev pub sizes_answered : Outcome Problem → Outcome Sizes
@@ -79,13 +80,9 @@ filled_places (answered p) b = record {
 unfoldable pub read_left : List ℕ → Places → Places
 read_left f b = filled_places (read_problem f b) b
 
--- what the answer stands for
-abbrev pub parsed_of : Parsed → Outcome Sizes
-parsed_of (Parsed.Refused r) = refused r.number r.place
-parsed_of (Parsed.Read p) = answered p
-
 -- the arrays that were read lie in the lent places, and the sizes are the program's
-abbrev pub Inside : Parsed → Type 0
-Inside (Parsed.Refused r) = Unit {0}
-Inside (Parsed.Read p) =
-    (p.targets ≤ 6144) × (p.values ≤ 4096) × (p.starts ≤ 12288) × (p.rows ≤ 12288) × (p.shape.n ≤ 256) × (p.shape.p ≤ 32)
+abbrev pub Inside : Outcome Sizes → Type 0
+Inside (refused number place) = Unit {0}
+Inside (answered s) =
+    (s.counts.targets ≤ 6144) × (s.counts.values ≤ 4096) × (s.counts.starts ≤ 12288) × (s.counts.rows ≤ 12288)
+    × (s.shape.n ≤ 256) × (s.shape.p ≤ 32)

@@ -1,8 +1,9 @@
 // Problem files on a byte slice: fields of one-byte tag, two-byte length and body, all little-endian.
 #![tactic(auto)]
 
-ghost use Rattle.std.specs.Prelude.{◌≡◌, true, ◌+◌, ◌≤◌, length};
-ghost use Rattle.doubles.specs.Answer.{refused as refused'};
+ghost use Rattle.std.specs.Prelude.{◌≡◌, true, ◌+◌, ◌≤◌, ◌<◌, leb, length};
+ghost use Rattle.doubles.specs.Answer.{outcome_of};
+ghost use Rattle.files.specs.Bytes.{byte};
 ghost use Rattle.files.specs.Problem as def;
 ghost use Rattle.files.specs.Call as call;
 ghost use Rattle.files.specs.Inner.Places as here;
@@ -10,108 +11,131 @@ ghost use Rattle.files.specs.Inner.Places as here;
 use crate::inner::{f64_at, put_doubles, put_indices, u16_at, u32_at};
 use definition::Settings;
 use designs::{Layout, Shape};
-use doubles::Refusal;
+use doubles::{Reason, Refusal};
 use penalties::separable::Penalty;
 
 pub mod inner;
+
+// How many elements each array of a problem has.
+#[derive(Clone, Copy, PartialEq, Eq, Debug, Drop)]
+pub struct Counts {
+    pub targets: usize,
+    pub values: usize,
+    pub starts: usize,
+    pub rows: usize,
+}
 
 // What was read: up to place `at`, the last field with tag `tag`; and how many elements each array has.
 #[derive(Clone, Copy, Drop)]
 pub struct Cursor {
     pub at: usize,
     pub tag: usize,
-    pub targets: usize,
-    pub values: usize,
-    pub starts: usize,
-    pub rows: usize,
+    pub counts: Counts,
 }
 
-// The numbers of a problem, and how many places each of its arrays has.
+// The numbers of a problem, and how many elements each of its arrays has.
 #[derive(Clone, Copy, Drop)]
 pub struct Sizes {
     pub shape: Shape,
     pub settings: Settings,
-    pub targets: usize,
-    pub values: usize,
-    pub starts: usize,
-    pub rows: usize,
-}
-
-#[derive(Clone, Copy, Drop)]
-pub enum Parsed {
-    Refused(Refusal),
-    Read(Sizes),
+    pub counts: Counts,
 }
 
 // ---- the header
 
-// Whether the first field is a header with codes and sizes that the program takes.
-fn is_header(file: &[u8]) -> bool
-    requires { (def.whole file.now 0 ≡ true) × (length file.now ≤ 49152) }
-    ensures { result ≡ def.good_header file.now }
+// What a header says.
+#[derive(Clone, Copy, Drop)]
+pub struct Header {
+    pub shape: Shape,
+    pub settings: Settings,
+}
+
+// The layout with this code.
+fn layout_of(code: u8) -> Option<Layout>
+    ensures { result ≡ here.layout_by code }
 {
-    if file[0] != 1 || u16_at(file, 1) != 48 {
-        return false;
+    match code {
+        0 => Some(Layout::Dense),
+        1 => Some(Layout::Csc),
+        _ => None,
     }
+}
+
+// Whether a switch with this code is on.
+fn switch_of(code: u8) -> Option<bool>
+    ensures { result ≡ here.switch_by code }
+{
+    match code {
+        0 => Some(false),
+        1 => Some(true),
+        _ => None,
+    }
+}
+
+// The shape, if the layout's code is one and the sizes are the program's.
+fn shape_of(file: &[u8]) -> Option<Shape>
+    requires { (51 ≤ length file.now) × (length file.now ≤ 49152) }
+    ensures { result ≡ here.some_if (here.good_shape file.now) (def.header_shape file.now) }
+{
+    let layout = layout_of(file[11])?;
     let n = u32_at(file, 3);
     let p = u32_at(file, 7);
     if 256 < n || 32 < p {
-        return false;
+        return None;
     }
-    let design = file[11];
-    let penalty = file[12];
-    let extrapolate = file[13];
-    design <= 1 && penalty <= 2 && extrapolate <= 1
+    Some(Shape { layout, n, p })
 }
 
-fn shape_of(file: &[u8]) -> Shape
+// The penalty, if its code is one.
+fn penalty_of(file: &[u8]) -> Option<Penalty>
     requires { (51 ≤ length file.now) × (length file.now ≤ 49152) }
-    ensures { result ≡ def.header_shape file.now }
-{
-    let layout = if file[11] == 1 {
-        Layout::Csc
-    } else {
-        Layout::Dense
-    };
-    Shape {
-        layout,
-        n: u32_at(file, 3),
-        p: u32_at(file, 7),
-    }
-}
-
-fn penalty_of(file: &[u8]) -> Penalty
-    requires { (51 ≤ length file.now) × (length file.now ≤ 49152) }
-    ensures { result ≡ def.header_penalty file.now }
+    ensures { result ≡ here.some_if (leb (byte file.now 12) 2) (def.header_penalty file.now) }
 {
     let alpha = f64_at(file, 35);
     let second = f64_at(file, 43);
     match file[12] {
-        0 => Penalty::L1 { alpha },
-        1 => Penalty::L1PlusL2 {
+        0 => Some(Penalty::L1 { alpha }),
+        1 => Some(Penalty::L1PlusL2 {
             alpha,
             l1_ratio: second,
-        },
-        _ => Penalty::MCP {
+        }),
+        2 => Some(Penalty::MCP {
             alpha,
             gamma: second,
-        },
+        }),
+        _ => None,
     }
 }
 
-fn settings_of(file: &[u8]) -> Settings
+// The settings, if the codes of the penalty and of extrapolation are some.
+fn settings_of(file: &[u8]) -> Option<Settings>
     requires { (51 ≤ length file.now) × (length file.now ≤ 49152) }
-    ensures { result ≡ def.header_settings file.now }
+    ensures { result ≡ here.some_if (here.good_settings file.now) (def.header_settings file.now) }
 {
-    Settings {
-        penalty: penalty_of(file),
+    let penalty = penalty_of(file)?;
+    let extrapolate = switch_of(file[13])?;
+    Some(Settings {
+        penalty,
         tolerance: f64_at(file, 27),
         start: u32_at(file, 15),
         iterations: u32_at(file, 19),
         epochs: u32_at(file, 23),
-        extrapolate: file[13] == 1,
+        extrapolate,
         depth: file[14] as usize,
+    })
+}
+
+// The header, if the first field is one with codes and sizes that the program takes.
+fn header_of(file: &[u8]) -> Option<Header>
+    requires { length file.now ≤ 49152 }
+    ensures { result ≡ here.header_in file.now }
+{
+    if !is_whole(file, 0) || file[0] != 1 || u16_at(file, 1) != 48 {
+        return None;
     }
+    let shape = shape_of(file)?;
+    let settings = settings_of(file)?;
+    Some(Header { shape, settings })
 }
 
 // ---- the other fields
@@ -124,12 +148,14 @@ fn is_whole(file: &[u8], at: usize) -> bool
     at + 3 <= file.len() && at + 3 + u16_at(file, at + 1) <= file.len()
 }
 
-// Tags 2 and 3, and for a sparse design 4 and 5.
-fn is_known(file: &[u8], tag: usize) -> bool
-    requires { 12 ≤ length file.now }
-    ensures { result ≡ def.known_tag file.now tag }
+// Tags 2 and 3, and for a sparse design 4 and 5. A tag is the byte that a file has, since its definition is over bytes.
+fn is_known(layout: Layout, tag: usize) -> bool
+    ensures { result ≡ here.known_by layout tag }
 {
-    let last = if file[11] == 1 { 5 } else { 3 };
+    let last = match layout {
+        Layout::Dense => 3,
+        Layout::Csc => 5,
+    };
     2 <= tag && tag <= last
 }
 
@@ -149,34 +175,29 @@ fn is_stored(tag: usize, values: usize, many: usize) -> bool
 }
 
 // Whether a field behind the header, which is not cut, is one that may come next.
-fn is_field(file: &[u8], c: Cursor) -> bool
-    requires { (def.whole file.now c.at ≡ true) × (12 ≤ length file.now) × (length file.now ≤ 49152) × (c.values ≤ 4096) }
-    ensures { result ≡ def.good_field file.now c.at c.tag c.values }
+fn is_field(file: &[u8], layout: Layout, c: Cursor) -> bool
+    requires { (def.whole file.now c.at ≡ true) × (length file.now ≤ 49152) × (c.counts.values ≤ 4096)
+        × (layout ≡ (def.header_shape file.now).layout) }
+    ensures { result ≡ def.good_field file.now c.at c.tag c.counts.values }
 {
     let tag = file[c.at] as usize;
     let many = u16_at(file, c.at + 1);
     let no_rest = many % size_of(tag) == 0;
-    is_known(file, tag) && c.tag <= tag && no_rest && is_stored(tag, c.values, many / 8)
+    is_known(layout, tag) && c.tag <= tag && no_rest && is_stored(tag, c.counts.values, many / 8)
 }
 
-fn is_good(file: &[u8], c: Cursor) -> bool
-    requires { (c.at ≤ length file.now) × (length file.now ≤ 49152) × (c.values ≤ 4096) × here.Headed file.now c.at }
-    ensures { result ≡ def.good_at file.now c.at c.tag c.values }
+fn is_good(file: &[u8], layout: Layout, c: Cursor) -> bool
+    requires { (c.at ≤ length file.now) × (length file.now ≤ 49152) × (c.counts.values ≤ 4096) × (0 < c.at)
+        × (layout ≡ (def.header_shape file.now).layout) }
+    ensures { result ≡ def.good_at file.now c.at c.tag c.counts.values }
 {
-    if !is_whole(file, c.at) {
-        return false;
-    }
-    if c.at == 0 {
-        is_header(file)
-    } else {
-        is_field(file, c)
-    }
+    is_whole(file, c.at) && is_field(file, layout, c)
 }
 
 // Behind the field at the cursor.
 fn advance(file: &[u8], c: Cursor) -> Cursor
     requires { (c.at + 3 ≤ length file.now) × (length file.now ≤ 49152)
-        × (c.targets ≤ 6144) × (c.values ≤ 4096) × (c.starts ≤ 12288) × (c.rows ≤ 12288) }
+        × (c.counts.targets ≤ 6144) × (c.counts.values ≤ 4096) × (c.counts.starts ≤ 12288) × (c.counts.rows ≤ 12288) }
     ensures { result ≡ here.advanced file.now c }
 {
     let tag = file[c.at] as usize;
@@ -184,10 +205,12 @@ fn advance(file: &[u8], c: Cursor) -> Cursor
     Cursor {
         at: c.at + 3 + many,
         tag,
-        targets: grown(c.targets, tag == 2, many / 8),
-        values: grown(c.values, tag == 3, many / 8),
-        starts: grown(c.starts, tag == 4, many / 4),
-        rows: grown(c.rows, tag == 5, many / 4),
+        counts: Counts {
+            targets: grown(c.counts.targets, tag == 2, many / 8),
+            values: grown(c.counts.values, tag == 3, many / 8),
+            starts: grown(c.counts.starts, tag == 4, many / 4),
+            rows: grown(c.counts.rows, tag == 5, many / 4),
+        },
     }
 }
 
@@ -210,10 +233,10 @@ fn store(
 )
     requires { (def.whole file.now c.at ≡ true) × (length file.now ≤ 49152)
         × (keep ≡ true → here.Space file.now c (length targets.old) (length values.old) (length starts.old) (length rows.old)) }
-    ensures { (targets.new ≡ here.stored_in keep file.now c.at 2 targets.old c.targets)
-        × (values.new ≡ here.stored_in keep file.now c.at 3 values.old c.values)
-        × (starts.new ≡ here.indexed_in keep file.now c.at 4 starts.old c.starts)
-        × (rows.new ≡ here.indexed_in keep file.now c.at 5 rows.old c.rows) }
+    ensures { (targets.new ≡ here.stored_in keep file.now c.at 2 targets.old c.counts.targets)
+        × (values.new ≡ here.stored_in keep file.now c.at 3 values.old c.counts.values)
+        × (starts.new ≡ here.indexed_in keep file.now c.at 4 starts.old c.counts.starts)
+        × (rows.new ≡ here.indexed_in keep file.now c.at 5 rows.old c.counts.rows) }
 {
     if !keep {
         return;
@@ -221,24 +244,25 @@ fn store(
     let many = u16_at(file, c.at + 1);
     let body = c.at + 3;
     match file[c.at] {
-        2 => put_doubles(file, body, many / 8, targets, c.targets),
-        3 => put_doubles(file, body, many / 8, values, c.values),
-        4 => put_indices(file, body, many / 4, starts, c.starts),
-        5 => put_indices(file, body, many / 4, rows, c.rows),
+        2 => put_doubles(file, body, many / 8, targets, c.counts.targets),
+        3 => put_doubles(file, body, many / 8, values, c.counts.values),
+        4 => put_indices(file, body, many / 4, starts, c.counts.starts),
+        5 => put_indices(file, body, many / 4, rows, c.counts.rows),
         _ => {}
     }
 }
 
-// Reads field after field while the next one is good, and keeps the arrays if `keep` says so.
+// Reads the fields behind a header while the next one is good, and keeps the arrays if `keep` says so.
 fn read_fields(
     file: &[u8],
+    layout: Layout,
     keep: bool,
     targets: &mut [f64],
     values: &mut [f64],
     starts: &mut [u32],
     rows: &mut [u32],
 ) -> Cursor
-    requires { (length file.now ≤ 49152)
+    requires { here.Headed file.now × (length file.now ≤ 49152) × (layout ≡ (def.header_shape file.now).layout)
         × (keep ≡ true → here.Suffice (length targets.old) (length values.old) (length starts.old) (length rows.old)) }
     ensures { here.Counted file.now result (def.read_all file.now)
         × (targets.new ≡ here.kept_if keep targets.old (def.read_all file.now).targets)
@@ -247,14 +271,16 @@ fn read_fields(
         × (rows.new ≡ here.kept_if keep rows.old (def.read_all file.now).rows) }
 {
     let mut c = Cursor {
-        at: 0,
-        tag: 0,
-        targets: 0,
-        values: 0,
-        starts: 0,
-        rows: 0,
+        at: 51,
+        tag: 1,
+        counts: Counts {
+            targets: 0,
+            values: 0,
+            starts: 0,
+            rows: 0,
+        },
     };
-    while is_good(file, c) {
+    while is_good(file, layout, c) {
         store(file, keep, c, targets, values, starts, rows);
         c = advance(file, c);
     }
@@ -263,22 +289,10 @@ fn read_fields(
 
 // ---- the call
 
-fn refused(number: u32, place: usize) -> Parsed
-    ensures { (call.parsed_of result ≡ refused' number place) × call.Inside result }
-{
-    Parsed::Refused(Refusal { number, place })
-}
-
 fn has_room(targets: &[f64], values: &[f64], starts: &[u32], rows: &[u32]) -> bool
     ensures { result ≡ call.places_suffice (call.places targets.now values.now starts.now rows.now) }
 {
     6144 <= targets.len() && 4096 <= values.len() && 12288 <= starts.len() && 12288 <= rows.len()
-}
-
-fn has_ended(file: &[u8], at: usize) -> bool
-    ensures { result ≡ here.read_whole_at file.now at }
-{
-    at != 0 && at == file.len()
 }
 
 // The problem of a file, its arrays in the first places of the lent ones.
@@ -288,30 +302,30 @@ pub fn read(
     values: &mut [f64],
     starts: &mut [u32],
     rows: &mut [u32],
-) -> Parsed
+) -> Result<Sizes, Refusal>
     ensures { let lent = call.places targets.old values.old starts.old rows.old in
-        (call.parsed_of result ≡ call.read_call file.now lent)
+        (outcome_of result ≡ call.read_call file.now lent)
         × (call.places targets.new values.new starts.new rows.new ≡ call.read_left file.now lent)
-        × call.Inside result }
+        × call.Inside (outcome_of result) }
 {
     if 49152 < file.len() {
-        return refused(9, 49152);
+        return Err(Reason::File.at(49152));
     }
+    let Some(Header { shape, settings }) = header_of(file) else {
+        return Err(Reason::File.at(0));
+    };
     // Once to see that the file is good and nothing has to be refused, and then once more to keep its arrays.
-    let c = read_fields(file, false, targets, values, starts, rows);
-    if !has_ended(file, c.at) {
-        return refused(9, c.at);
+    let c = read_fields(file, shape.layout, false, targets, values, starts, rows);
+    if c.at != file.len() {
+        return Err(Reason::File.at(c.at));
     }
     if !has_room(targets, values, starts, rows) {
-        return refused(3, 0);
+        return Err(Reason::Room.at(0));
     }
-    let d = read_fields(file, true, targets, values, starts, rows);
-    Parsed::Read(Sizes {
-        shape: shape_of(file),
-        settings: settings_of(file),
-        targets: d.targets,
-        values: d.values,
-        starts: d.starts,
-        rows: d.rows,
+    let d = read_fields(file, shape.layout, true, targets, values, starts, rows);
+    Ok(Sizes {
+        shape,
+        settings,
+        counts: d.counts,
     })
 }

@@ -88,7 +88,7 @@ fn turn(
         × here.Grown totals (here.totals_of result totals) }
 {
     let p = problem.x.matrix.shape.p;
-    let v = opt_cond_violation(problem, w, fit, &mut scratch[..p])?;
+    let v = opt_cond_violation(&problem.task(), w, fit, &mut scratch[..p])?;
     if v <= problem.settings.tolerance {
         return Ok(Pace::Stopped(Totals {
             violation: v,
@@ -113,7 +113,7 @@ fn last_turn(
         (call.concluded (def.turn (task_in P) P.y.now P.settings P.settings.iterations (before sets))) }
 {
     let p = problem.x.matrix.shape.p;
-    let v = opt_cond_violation(problem, w, fit, &mut scratch[..p])?;
+    let v = opt_cond_violation(&problem.task(), w, fit, &mut scratch[..p])?;
     Ok(Totals {
         violation: v,
         ..totals

@@ -2,30 +2,68 @@
 // They look at sizes and at no number, so they are for callers that have checked their design; the exports have no such call.
 #![tactic(auto)]
 
-ghost use Rattle.std.specs.Prelude.{◌≡◌, length};
-ghost use Rattle.doubles.specs.Answer.{verdict_of};
+ghost use Rattle.std.specs.Prelude.{◌≡◌, ◌<◌, ◌≤◌, length, IfOk};
+ghost use Rattle.doubles.specs.Answer.{outcome_of, after};
+ghost use Rattle.designs.specs.Design as def;
+ghost use Rattle.designs.specs.Given.{fault_of};
 ghost use Rattle.plain_numbers.specs.Codes.{number_in, place_in};
 ghost use Rattle.kernels.specs.Kernels as kernels;
 
 use columns::{column_dot, column_update};
-use designs::Feature;
 use designs::inner::sizes_agree;
-use doubles::Verdict;
-use doubles::inner::{both, refused};
-use plain_numbers::{dense, tell_verdict};
+use designs::tested::Tested;
+use designs::{Feature, Matrix};
+use doubles::{Reason, Refusal};
+use plain_numbers::{tell_number, tell_verdict};
 
-// 1 and 3, where the list that the column meets has so many places.
-fn admit_column(n: usize, p: usize, values: &[f64], column: usize, places: usize) -> Verdict
-    ensures { verdict_of result ≡ kernels.kernel_fault n p values.now column places }
+// 1 and 3, where the list that the column meets has so many places. What a tested design's type says of a dense one are its sizes.
+fn admit_column<'a>(
+    n: usize,
+    p: usize,
+    values: &'a [f64],
+    column: usize,
+    places: usize,
+) -> Result<Tested<'a>, Refusal>
+    ensures fault { fault_of result ≡ kernels.kernel_fault n p values.now column places }
+    ensures design { IfOk result (λ x. (def.of_matrix x.matrix ≡ def.dense n p values.now) × (column < x.matrix.shape.p) × (x.matrix.shape.n ≤ places)) }
 {
-    let none = [0u32; 0];
-    if both(sizes_agree(dense(n, p), &none, &none, values), column < p) {
-        if n <= places {
-            return Verdict::Fine;
-        }
-        return refused(3, 0);
+    let matrix = Matrix::dense(n, p, values);
+    if !sizes_agree(&matrix) || p <= column {
+        return Err(Reason::Sizes.at(0));
     }
-    refused(1, 0)
+    if places < n {
+        return Err(Reason::Room.at(0));
+    }
+    Ok(Tested { matrix })
+}
+
+fn column_product(
+    n: usize,
+    p: usize,
+    values: &[f64],
+    column: usize,
+    v: &[f64],
+) -> Result<f64, Refusal>
+    ensures { outcome_of result ≡ after (kernels.kernel_fault n p values.now column (length v.now)) (def.dot (def.dense n p values.now) column v.now) }
+{
+    let x = admit_column(n, p, values, column, v.len())?;
+    Ok(column_dot(&x, Feature(column), v))
+}
+
+fn update_fit(
+    n: usize,
+    p: usize,
+    values: &[f64],
+    column: usize,
+    difference: f64,
+    fit: &mut [f64],
+) -> Result<(), Refusal>
+    ensures { (outcome_of result ≡ kernels.kernel_fault n p values.now column (length fit.old))
+        × (fit.new ≡ kernels.update_left n p values.now column difference fit.old) }
+{
+    let x = admit_column(n, p, values, column, fit.len())?;
+    column_update(&x, Feature(column), difference, fit);
+    Ok(())
 }
 
 // The product of a column and v.
@@ -44,13 +82,8 @@ pub extern "C" fn kernel_column_product_dense(
         × (place.new ≡ place_in fault)
         × (product.new ≡ kernels.product_left n p values.now column v.now product.old) }
 {
-    let none = [0u32; 0];
-    let verdict = admit_column(n, p, values, column, v.len());
-    let number = tell_verdict(verdict, place);
-    if let Verdict::Fine = verdict {
-        *product = column_dot(dense(n, p), &none, &none, values, Feature(column), v);
-    }
-    number
+    let answer = column_product(n, p, values, column, v);
+    tell_number(answer, product, place)
 }
 
 // The fit gains `difference` times a column.
@@ -69,19 +102,6 @@ pub extern "C" fn kernel_column_update_dense(
         × (place.new ≡ place_in fault)
         × (fit.new ≡ kernels.update_left n p values.now column difference fit.old) }
 {
-    let none = [0u32; 0];
-    let verdict = admit_column(n, p, values, column, fit.len());
-    let number = tell_verdict(verdict, place);
-    if let Verdict::Fine = verdict {
-        column_update(
-            dense(n, p),
-            &none,
-            &none,
-            values,
-            Feature(column),
-            difference,
-            fit,
-        );
-    }
-    number
+    let answer = update_fit(n, p, values, column, difference, fit);
+    tell_verdict(answer, place)
 }

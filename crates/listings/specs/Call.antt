@@ -6,12 +6,6 @@ use Rattle.doubles.specs.Answer.{Outcome, refused, answered}
 use Rattle.doubles.specs.Answer.{Fault, none, unless, after, left}
 use Rattle.definition.specs.declared.Report.{Report}
 use Rattle.listings.specs.Listing.{listed}
-use Rattle.listings.specs.declared.Written.{Written}
-
--- what the answer stands for: a refusal, or how many bytes
-abbrev pub written_of : Written → Outcome ℕ
-written_of (Written.Refused r) = refused r.number r.place
-written_of (Written.Bytes n) = answered n
 
 -- what was written lies within m bytes
 abbrev pub Short : Outcome ℕ → ℕ → Type 0

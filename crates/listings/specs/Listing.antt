@@ -8,6 +8,7 @@ use Rattle.doubles.specs.Num.{at, pick}
 use Rattle.doubles.specs.Steps.{steps}
 use Rattle.io.specs.Digits.{last_digits}
 use Rattle.doubles.specs.Answer.{Outcome, refused, answered}
+use Rattle.definition.specs.Status.{status_number}
 use Rattle.definition.specs.declared.Report.{Report}
 
 -- the bytes of a text
@@ -63,7 +64,7 @@ entry_lines name xs n = steps (λ i l. l and_then entry_line name i (at xs i)) n
 -- "status 1", "violation 0000000000000000", "iterations 1", "epochs 11", "extrapolations 0"
 unfoldable pub report_lines : Report → List ℕ
 report_lines r =
-    count_line (codes "status ") r.status
+    count_line (codes "status ") (status_number r.status)
     and_then bits_line (codes "violation ") r.violation
     and_then count_line (codes "iterations ") r.iterations
     and_then count_line (codes "epochs ") r.epochs

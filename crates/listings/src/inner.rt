@@ -1,5 +1,6 @@
 // The parts of a listing. Each goes into the buffer at a place that is given, and the place behind it comes back.
 ghost use Rattle.std.specs.Prelude.{◌≡◌, leb, length};
+ghost use Rattle.doubles.specs.Answer.{number};
 ghost use Rattle.doubles.specs.Num.{◌and◌};
 ghost use Rattle.listings.specs.Listing as lines;
 ghost use Rattle.listings.specs.Inner.Wrote.{Room, Wrote};
@@ -117,7 +118,7 @@ fn put_report(report: Report, out: &mut [u8], at: usize) -> usize
     requires { Room out.old at (lines.report_lines report) }
     ensures { Wrote out.old out.new at result (lines.report_lines report) }
 {
-    let a = put_count_line(b"status ", report.status as usize, out, at);
+    let a = put_count_line(b"status ", report.status.number() as usize, out, at);
     let b = put_bits_line(b"violation ", report.violation, out, a);
     let c = put_count_line(b"iterations ", report.iterations, out, b);
     let d = put_count_line(b"epochs ", report.epochs, out, c);
@@ -136,9 +137,9 @@ pub fn put_listing(report: Report, w: &[f64], entries: &[f64], out: &mut [u8]) -
 }
 
 pub fn put_refusal(refusal: Refusal, out: &mut [u8]) -> usize
-    requires { Room out.old 0 (lines.refused_line refusal.number refusal.place) }
-    ensures { Wrote out.old out.new 0 result (lines.refused_line refusal.number refusal.place) }
+    requires { Room out.old 0 (lines.refused_line (number refusal.reason) refusal.place) }
+    ensures { Wrote out.old out.new 0 result (lines.refused_line (number refusal.reason) refusal.place) }
 {
-    let behind = put_labelled(b"refused ", refusal.number as usize, out, 0);
+    let behind = put_labelled(b"refused ", refusal.number() as usize, out, 0);
     put_count_line(b" at ", refusal.place, out, behind)
 }

@@ -2,42 +2,33 @@
 #![tactic(auto)]
 
 ghost use Rattle.std.specs.Prelude.{◌≡◌, length};
-ghost use Rattle.doubles.specs.Answer.{refused as refused'};
-ghost use Rattle.definition.specs.Call.{fit_of};
+ghost use Rattle.doubles.specs.Answer.{outcome_of};
 ghost use Rattle.listings.specs.Call as calls;
 
-use definition::Fit;
-use doubles::Refusal;
+use definition::Report;
+use doubles::{Reason, Refusal};
 
 pub mod inner;
 
-// The call's answer: a refusal, or how many bytes the listing has.
-#[derive(Clone, Copy, Drop)]
-pub enum Written {
-    Refused(Refusal),
-    Bytes(usize),
-}
-
-fn refused(number: u32, place: usize) -> Written
-    ensures { calls.written_of result ≡ refused' number place }
-{
-    Written::Refused(Refusal { number, place })
-}
-
-// Writes the listing of a fit with these weights and fit entries to the first bytes of `out`. 8,192 bytes hold the largest.
-pub fn write_listing(fit: Fit, w: &[f64], entries: &[f64], out: &mut [u8]) -> Written
-    ensures { (calls.written_of result ≡ calls.write_call (fit_of fit) w.now entries.now out.old)
-        × (out.new ≡ calls.write_left (fit_of fit) w.now entries.now out.old)
-        × calls.Short (calls.written_of result) (length out.old) }
+// Writes what a fit answered, with these weights and fit entries, to the first bytes of `out`, and answers how many. 8,192 bytes hold the largest listing.
+pub fn write_listing(
+    answer: Result<Report, Refusal>,
+    w: &[f64],
+    entries: &[f64],
+    out: &mut [u8],
+) -> Result<usize, Refusal>
+    ensures { (outcome_of result ≡ calls.write_call (outcome_of answer) w.now entries.now out.old)
+        × (out.new ≡ calls.write_left (outcome_of answer) w.now entries.now out.old)
+        × calls.Short (outcome_of result) (length out.old) }
 {
     if !inner::sizes_fit(w, entries) {
-        return refused(1, 0);
+        return Err(Reason::Sizes.at(0));
     }
     if out.len() < 8192 {
-        return refused(3, 0);
+        return Err(Reason::Room.at(0));
     }
-    match fit {
-        Fit::Refused(r) => Written::Bytes(inner::put_refusal(r, out)),
-        Fit::Done(report) => Written::Bytes(inner::put_listing(report, w, entries, out)),
+    match answer {
+        Err(refusal) => Ok(inner::put_refusal(refusal, out)),
+        Ok(report) => Ok(inner::put_listing(report, w, entries, out)),
     }
 }

@@ -81,7 +81,7 @@ fn finish(n: usize, prepared: &[f64], from: usize, buf: &mut [f64])
 // The gradients of all features at a fit into p places.
 pub fn all_gradients(x: &Tested<'_>, prepared: &[f64], fit: &[f64], grad: &mut [f64])
     requires { let p = x.now.matrix.shape.p in
-        (length grad.old ≡ p) × (x.now.matrix.shape.n ≤ length fit.now) × (p + p ≤ length prepared.now) }
+        (x.now.matrix.shape.n ≤ 65536) × (length grad.old ≡ p) × (x.now.matrix.shape.n ≤ length fit.now) × (p + p ≤ length prepared.now) }
     ensures { let X = def.of_matrix x.now.matrix in
         grad.new ≡ def.full_gradient X fit.now (λ j. num.at prepared.now (x.now.matrix.shape.p + j)) }
 {
@@ -159,7 +159,7 @@ fn divide(n: usize, buf: &mut [f64])
 
 // The Lipschitz constants of all columns into p places.
 fn constants(x: &Tested<'_>, buf: &mut [f64])
-    requires { length buf.old ≡ x.now.matrix.shape.p }
+    requires { (x.now.matrix.shape.n ≤ 65536) × (length buf.old ≡ x.now.matrix.shape.p) }
     ensures { buf.new ≡ tab (def.lipschitz (def.of_matrix x.now.matrix)) x.now.matrix.shape.p }
 {
     all_squares(x, buf);
@@ -168,7 +168,8 @@ fn constants(x: &Tested<'_>, buf: &mut [f64])
 
 // The constants of all columns, then X'y, into 2p places.
 pub fn prepare(x: &Tested<'_>, y: &[f64], buf: &mut [f64])
-    requires { (length buf.old ≡ x.now.matrix.shape.p + x.now.matrix.shape.p) × (x.now.matrix.shape.n ≤ length y.now) }
+    requires { let p = x.now.matrix.shape.p in
+        (x.now.matrix.shape.n ≤ 65536) × (length buf.old ≡ p + p) × (x.now.matrix.shape.n ≤ length y.now) }
     ensures { buf.new ≡ def.prepared (def.of_matrix x.now.matrix) y.now }
 {
     let p = x.matrix.shape.p;
@@ -189,7 +190,7 @@ fn largest_abs(xs: &[f64]) -> f64
 
 // X'y into p places, and the largest of it over n.
 pub fn alpha_max(x: &Tested<'_>, y: &[f64], xty: &mut [f64]) -> f64
-    requires { (length xty.old ≡ x.now.matrix.shape.p) × (x.now.matrix.shape.n ≤ length y.now) }
+    requires { (x.now.matrix.shape.n ≤ 65536) × (length xty.old ≡ x.now.matrix.shape.p) × (x.now.matrix.shape.n ≤ length y.now) }
     ensures { let X = def.of_matrix x.now.matrix in
         (result ≡ def.alpha_max X y.now) × (xty.new ≡ def.dots X y.now) }
 {

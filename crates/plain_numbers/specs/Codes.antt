@@ -9,6 +9,7 @@ use Rattle.penalties.specs.declared.separable.Penalty.TheVariants.{L1, L1PlusL2,
 use Rattle.designs.specs.Given.{Given}
 use Rattle.definition.specs.Call.{Lent, solve_call, solve_left}
 use Rattle.definition.specs.Walk.{walk_call, walk_left, walk_numbers}
+use Rattle.definition.specs.Status.{status_number}
 use Rattle.definition.specs.declared.Settings.{Settings}
 use Rattle.definition.specs.declared.Report.{Report}
 use Rattle.definition.specs.declared.Usable.{Usable}
@@ -52,43 +53,66 @@ coded_settings code alpha second tolerance start iterations epochs extrapolate d
   depth = depth;
 }
 
--- ---- the report's numbers, which are lent too
-abbrev pub report : ℕ → Float → ℕ → ℕ → ℕ → Report
+-- ---- the report's numbers, which are lent too; the status is its number
+pub record ReportNumbers : Type 0 where
+  pub status : ℕ
+  pub violation : Float
+  pub iterations : ℕ
+  pub epochs : ℕ
+  pub extrapolations : ℕ
+
+abbrev pub report : ℕ → Float → ℕ → ℕ → ℕ → ReportNumbers
 report status violation iterations epochs extrapolations =
     record { status = status; violation = violation; iterations = iterations; epochs = epochs; extrapolations = extrapolations }
+
+abbrev pub report_numbers : Report → ReportNumbers
+report_numbers r = report (status_number r.status) r.violation r.iterations r.epochs r.extrapolations
+
+-- those of the answer: refused, they are what they were
+abbrev pub report_in : Outcome Report → ReportNumbers → ReportNumbers
+report_in (refused number place) old = old
+report_in (answered r) old = report_numbers r
 
 -- ---- all that a solve leaves its caller: number and place, the report's numbers, and the lent buffers
 pub record Reply : Type 0 where
   pub number : ℕ
   pub place : ℕ
-  pub report : Report
+  pub report : ReportNumbers
   pub lent : Lent
 
-abbrev pub reply : ℕ → ℕ → Report → Lent → Reply
+abbrev pub reply : ℕ → ℕ → ReportNumbers → Lent → Reply
 reply number place r b = record { number = number; place = place; report = r; lent = b }
 
 -- where the report's numbers were `old`
-unfoldable pub solve_reply : Given → Settings → List Float → Lent → Report → Reply
+unfoldable pub solve_reply : Given → Settings → List Float → Lent → ReportNumbers → Reply
 solve_reply g S handed b old =
     let done = solve_call g S handed b in
-    reply (number_in done) (place_in done) (answer_in done old) (solve_left g S handed b)
+    reply (number_in done) (place_in done) (report_in done old) (solve_left g S handed b)
 
 -- ---- all that a walk leaves its caller: besides, the position with the report's numbers, and the prepared numbers, which are lent
-abbrev pub usable : ℕ → Report → Usable
+pub record UsableNumbers : Type 0 where
+  pub position : ℕ
+  pub report : ReportNumbers
+
+abbrev pub usable : ℕ → ReportNumbers → UsableNumbers
 usable position r = record { position = position; report = r }
+
+abbrev pub usable_in : Outcome Usable → UsableNumbers → UsableNumbers
+usable_in (refused number place) old = old
+usable_in (answered u) old = usable u.position (report_numbers u.report)
 
 pub record WalkReply : Type 0 where
   pub number : ℕ
   pub place : ℕ
-  pub found : Usable
+  pub found : UsableNumbers
   pub lent : Lent
   pub numbers : List Float
 
-abbrev pub told : ℕ → ℕ → Usable → Lent → List Float → WalkReply
+abbrev pub told : ℕ → ℕ → UsableNumbers → Lent → List Float → WalkReply
 told number place u b numbers = record { number = number; place = place; found = u; lent = b; numbers = numbers }
 
 -- where the position and the report's numbers were `old`
-unfoldable pub walk_reply : Given → Settings → List Float → ℕ → List Float → Lent → Usable → WalkReply
+unfoldable pub walk_reply : Given → Settings → List Float → ℕ → List Float → Lent → UsableNumbers → WalkReply
 walk_reply g S alphas most buf b old =
     let found = walk_call g S alphas most buf b in
-    told (number_in found) (place_in found) (answer_in found old) (walk_left g S alphas most buf b) (walk_numbers g S alphas buf b)
+    told (number_in found) (place_in found) (usable_in found old) (walk_left g S alphas most buf b) (walk_numbers g S alphas buf b)

@@ -11,7 +11,8 @@ use designs::tested::Tested;
 use designs::{Feature, Shape};
 
 pub fn initialize(x: &Tested<'_>, y: &[f64], prepared: &mut [f64])
-    requires { (x.now.matrix.shape.p + x.now.matrix.shape.p ≤ length prepared.old) × (x.now.matrix.shape.n ≤ length y.now) }
+    requires { let p = x.now.matrix.shape.p in
+        (x.now.matrix.shape.n ≤ 65536) × (p + p ≤ length prepared.old) × (x.now.matrix.shape.n ≤ length y.now) }
     ensures { prepared.new ≡ put prepared.old 0 (def.prepared (def.of_matrix x.now.matrix) y.now) }
 {
     let p = x.matrix.shape.p;
@@ -28,7 +29,7 @@ fn product_of(prepared: &[f64], p: usize, feature: Feature) -> f64
 
 pub fn gradient_j(x: &Tested<'_>, prepared: &[f64], fit: &[f64], feature: Feature) -> f64
     requires { let p = x.now.matrix.shape.p in
-        (feature.0 < p) × (p + p ≤ length prepared.now) × (x.now.matrix.shape.n ≤ length fit.now) }
+        (feature.0 < p) × (x.now.matrix.shape.n ≤ 65536) × (p + p ≤ length prepared.now) × (x.now.matrix.shape.n ≤ length fit.now) }
     ensures { let X = def.of_matrix x.now.matrix in
         result ≡ def.gradient X feature.0 fit.now (num.at prepared.now (x.now.matrix.shape.p + feature.0)) }
 {
@@ -40,7 +41,7 @@ pub fn gradient_j(x: &Tested<'_>, prepared: &[f64], fit: &[f64], feature: Featur
 
 pub fn full_grad(x: &Tested<'_>, prepared: &[f64], fit: &[f64], grad: &mut [f64])
     requires { let p = x.now.matrix.shape.p in
-        (p + p ≤ length prepared.now) × (x.now.matrix.shape.n ≤ length fit.now) × (p ≤ length grad.old) }
+        (x.now.matrix.shape.n ≤ 65536) × (p + p ≤ length prepared.now) × (x.now.matrix.shape.n ≤ length fit.now) × (p ≤ length grad.old) }
     ensures { let X = def.of_matrix x.now.matrix in
         grad.new ≡ put grad.old 0 (def.full_gradient X fit.now (λ j. num.at prepared.now (x.now.matrix.shape.p + j))) }
 {
@@ -79,7 +80,7 @@ pub fn compute_extrapolated_fit(x: &Tested<'_>, ws: &[u32], w: &[f64], fit: &mut
 
 // X'y into the first p places, and the largest of it over n.
 pub fn largest_of(x: &Tested<'_>, y: &[f64], xty: &mut [f64]) -> f64
-    requires { (x.now.matrix.shape.p ≤ length xty.old) × (x.now.matrix.shape.n ≤ length y.now) }
+    requires { (x.now.matrix.shape.n ≤ 65536) × (x.now.matrix.shape.p ≤ length xty.old) × (x.now.matrix.shape.n ≤ length y.now) }
     ensures { let X = def.of_matrix x.now.matrix in
         (result ≡ def.alpha_max X y.now) × (xty.new ≡ put xty.old 0 (def.dots X y.now)) }
 {

@@ -6,8 +6,8 @@ ghost use Rattle.replay_designs.specs.AllWithin.{AllWithin};
 ghost use Rattle.list_reader.specs.Within.{Within};
 
 use crate::arrays::{Arrays, arrays_of};
-use designs::{Feature, Layout, Shape};
-use doubles::{Number, Refusal, Verdict, double};
+use designs::{Feature, Layout, Matrix, Shape};
+use doubles::{Reason, Refusal, double};
 use list_reader::Words;
 use list_reader::outcomes::same_number;
 use list_reader::parts::{
@@ -36,7 +36,7 @@ struct Answers {
 // What the port answers, and the lent buffer as it leaves it.
 #[derive(Drop)]
 struct PortAnswer {
-    answer: Number,
+    answer: Result<f64, Refusal>,
     lent: Doubles,
 }
 
@@ -104,7 +104,7 @@ fn call_of(words: &Words, code: u64, at: usize) -> Call
         Layout::Csc
     };
     let shape = Shape {
-        layout: layout,
+        layout,
         n: words[2] as usize,
         p: words[3] as usize,
     };
@@ -114,7 +114,7 @@ fn call_of(words: &Words, code: u64, at: usize) -> Call
         words[at]
     };
     Call {
-        code: code,
+        code,
         shape,
         diff: double(words[at]),
         j: j as usize,
@@ -160,11 +160,15 @@ fn port_answer(words: &Words, call: Call, arrays: Arrays) -> PortAnswer
     let features = indices_of(words, arrays.first);
     let second = doubles_of(words, arrays.second);
     let mut lent = doubles_of(words, arrays.lent);
+    let x = Matrix {
+        shape: call.shape,
+        starts: &starts[..arrays.starts.count],
+        rows: &rows[..arrays.rows.count],
+        values: &values[..arrays.values.count],
+    };
     let answer = ask(
         call,
-        &starts[..arrays.starts.count],
-        &rows[..arrays.rows.count],
-        &values[..arrays.values.count],
+        &x,
         &first[..arrays.first.count],
         &features[..arrays.first.count],
         &second[..arrays.second.count],
@@ -176,60 +180,41 @@ fn port_answer(words: &Words, call: Call, arrays: Arrays) -> PortAnswer
 // The code's call. `features` is the first array as indices, which code 15 alone has.
 fn ask(
     call: Call,
-    starts: &[u32],
-    rows: &[u32],
-    values: &[f64],
+    x: &Matrix<'_>,
     first: &[f64],
     features: &[u32],
     second: &[f64],
     lent: &mut [f64],
-) -> Number {
-    let shape = call.shape;
+) -> Result<f64, Refusal> {
     let j = Feature(call.j);
     match call.code {
-        0x10 => number(datafits::initialize(shape, starts, rows, values, first, lent)),
-        0x11 => datafits::gradient_j(shape, starts, rows, values, first, second, j),
-        0x12 => number(datafits::full_grad(shape, starts, rows, values, first, second, lent)),
+        0x10 => number(datafits::initialize(x, first, lent)),
+        0x11 => datafits::gradient_j(x, first, second, j),
+        0x12 => number(datafits::full_grad(x, first, second, lent)),
         0x13 => datafits::value(first, second),
-        0x14 => number(datafits::update_model_fit(shape, starts, rows, values, lent, call.diff, j)),
-        0x15 => number(datafits::compute_extrapolated_fit(
-            shape, starts, rows, values, features, second, lent,
-        )),
-        0x16 => alpha_max(shape, starts, rows, values, first, lent),
-        _ => number(designs::check(shape, starts, rows, values, first)),
+        0x14 => number(datafits::update_model_fit(x, lent, call.diff, j)),
+        0x15 => number(datafits::compute_extrapolated_fit(x, features, second, lent)),
+        0x16 => alpha_max(x, first, lent),
+        _ => number(designs::check(x, first)),
     }
 }
 
-// A verdict as a call's answer: fine is +0.
-fn number(verdict: Verdict) -> Number {
-    match verdict {
-        Verdict::Refused(f) => Number::Refused(f),
-        Verdict::Fine => Number::Is(0.0),
-    }
+// What a call answers that has no number: +0 where it did not refuse.
+fn number(answer: Result<(), Refusal>) -> Result<f64, Refusal> {
+    answer.map(|_| 0.0)
 }
 
 // A dense design that has starts or rows cannot be asked of `compute_alpha_max`, which takes none: such a record agrees if it says what every
 // other call says of the design, refusal 1.
-fn alpha_max(
-    shape: Shape,
-    starts: &[u32],
-    rows: &[u32],
-    values: &[f64],
-    y: &[f64],
-    xty: &mut [f64],
-) -> Number {
-    match shape.layout {
+fn alpha_max(x: &Matrix<'_>, y: &[f64], xty: &mut [f64]) -> Result<f64, Refusal> {
+    let Shape { layout, n, p } = x.shape;
+    match layout {
         Layout::Dense => {
-            if 0 < starts.len() || 0 < rows.len() {
-                return Number::Refused(Refusal {
-                    number: 1,
-                    place: 0,
-                });
+            if 0 < x.starts.len() || 0 < x.rows.len() {
+                return Err(Reason::Sizes.at(0));
             }
-            datafits::compute_alpha_max(shape.n, shape.p, values, y, xty)
+            datafits::compute_alpha_max(n, p, x.values, y, xty)
         }
-        Layout::Csc => datafits::compute_alpha_max_sparse(
-            shape.n, shape.p, starts, rows, values, y, xty,
-        ),
+        Layout::Csc => datafits::compute_alpha_max_sparse(n, p, x.starts, x.rows, x.values, y, xty),
     }
 }

@@ -4,7 +4,7 @@ ghost use Rattle.std.specs.Prelude.{◌≡◌, ◌+◌, ◌≤◌, length, take}
 
 use doubles::double;
 use elimination::helpers;
-use elimination::helpers::{Ending, Solution};
+use elimination::helpers::Unsolved;
 use list_reader::outcomes::same_refusal;
 use list_reader::parts::penalty_at;
 use list_reader::progress::{Compared, judge};
@@ -21,10 +21,13 @@ pub fn replay(words: &Words, n: usize) -> Compared {
 }
 
 fn inner_violation(words: &Words, n: usize) -> Compared {
-    if n != 7 || 2 < words[1] {
+    let Some(penalty) = penalty_at(words, 1) else {
+        return Compared::Bad;
+    };
+    if n != 7 {
         return Compared::Bad;
     }
-    let r = inner::violation(penalty_at(words, 1), double(words[4]), double(words[5]));
+    let r = inner::violation(penalty, double(words[4]), double(words[5]));
     judge(same(r, double(words[6])))
 }
 
@@ -43,7 +46,10 @@ fn weights(words: &Words, count: usize) -> [f64; 64]
 }
 
 fn inner_value(words: &Words, n: usize) -> Compared {
-    if 64 < words[4] || 2 < words[1] {
+    let Some(penalty) = penalty_at(words, 1) else {
+        return Compared::Bad;
+    };
+    if 64 < words[4] {
         return Compared::Bad;
     }
     let count = words[4] as usize;
@@ -51,7 +57,7 @@ fn inner_value(words: &Words, n: usize) -> Compared {
         return Compared::Bad;
     }
     let w = weights(words, count);
-    let r = inner::value(penalty_at(words, 1), &w[..count]);
+    let r = inner::value(penalty, &w[..count]);
     judge(same(r, double(words[count + 5])))
 }
 
@@ -61,7 +67,7 @@ fn inner_value(words: &Words, n: usize) -> Compared {
 fn row(words: &Words, at: usize, count: usize) -> [f64; 11]
     requires { (count ≤ 11) × (at + count ≤ 1024) }
 {
-    let mut r = [0.0 / 0.0; 11];
+    let mut r = [f64::NAN; 11];
     for k in 0..count {
         r[k] = double(words[at + k]);
     }
@@ -71,7 +77,7 @@ fn row(words: &Words, at: usize, count: usize) -> [f64; 11]
 fn system(words: &Words, size: usize) -> [[f64; 11]; 10]
     requires { size ≤ 10 }
 {
-    let none = [0.0 / 0.0; 11];
+    let none = [f64::NAN; 11];
     let mut m = [none; 10];
     let mut at: usize = 2;
     for i in 0..size {
@@ -89,19 +95,19 @@ fn same_places(z: [f64; 10], words: &Words, at: usize) -> bool
         .all(|(x, word)| same(*x, double(*word)))
 }
 
-// The answers from word `at` on: number, place, singular and the ten places.
-fn same_solution(s: Solution, words: &Words, at: usize) -> bool
+// The answers from word `at` on: number, place, singular and the ten places, which are +0 where there is no solution.
+fn same_solution(answer: Result<[f64; 10], Unsolved>, words: &Words, at: usize) -> bool
     requires { at + 13 ≤ 1024 }
 {
     let number = words[at];
     let place = words[at + 1];
     let singular = words[at + 2];
-    let ended = match s.ending {
-        Ending::Refused(f) => same_refusal(f, number, place) && singular == 0,
-        Ending::Singular => number == 0 && place == 0 && singular == 1,
-        Ending::Solved => number == 0 && place == 0 && singular == 0,
+    let ended = match answer {
+        Ok(_) => number == 0 && place == 0 && singular == 0,
+        Err(Unsolved::Refused(refusal)) => same_refusal(refusal, number, place) && singular == 0,
+        Err(Unsolved::Singular) => number == 0 && place == 0 && singular == 1,
     };
-    ended && same_places(s.z, words, at + 3)
+    ended && same_places(answer.unwrap_or([0.0; 10]), words, at + 3)
 }
 
 // How many rows a record has. A size outside 1 to 10 comes with none.
@@ -127,6 +133,6 @@ fn solve(words: &Words, n: usize) -> Compared {
     if n != at + 13 {
         return Compared::Bad;
     }
-    let s = helpers::solve_lin_sys(system(words, rows), size);
-    judge(same_solution(s, words, at))
+    let answer = helpers::solve_lin_sys(system(words, rows), size);
+    judge(same_solution(answer, words, at))
 }

@@ -14,8 +14,7 @@ use Rattle.doubles.proofs.Laws.Signs.{zero-turned, signs-at, signs-length}
 use Rattle.doubles.proofs.Laws.Steps.{steps-same}
 use Rattle.designs.specs.Given.{Given}
 use Rattle.designs.specs.Search.{or_else, mark}
-use Rattle.designs.specs.declared.Found.{Found}
-use Rattle.designs.specs.declared.Found.TheVariants.{At, Nowhere}
+use Rattle.std.specs.Prelude.{Option, Some, None}
 use Rattle.definition.specs.WorkingSet.{nonzeros}
 use Rattle.definition.specs.Run.{State}
 use Rattle.definition.specs.Call.{Lent, End, given_up, behind, report_of, answer, buffers}
@@ -95,11 +94,11 @@ module _ (g : Given) {c σ : ℕ → Bool} {t : Bool} {values' y' : List Float} 
   position-same : position g S alphas most buf b ≡ position other S alphas most buf b
   unfolding position first_usable
   position-same =
-      steps-same _ _ (length alphas) Nowhere (λ k l r. ap (λ (x : Bool). or_else r (mark x k)) (usable_same S most (fits_alike k)))
+      steps-same _ _ (length alphas) None (λ k l r. ap (λ (x : Bool). or_else r (mark x k)) (usable_same S most (fits_alike k)))
 
-  ends_alike : (f : Found) → Ends (SameRun c t S) (end_at fits f) (end_at fits' f)
-  ends_alike (At k) = fits_alike k
-  ends_alike Nowhere = both-given_up
+  ends_alike : (f : Option ℕ) → Ends (SameRun c t S) (end_at fits f) (end_at fits' f)
+  ends_alike (Some k) = fits_alike k
+  ends_alike None = both-given_up
 
   walks_alike : Ends (SameRun c t S) (walk_end g S alphas most buf b) (walk_end other S alphas most buf b)
   unfolding walk_end
@@ -109,19 +108,19 @@ module _ (g : Given) {c σ : ℕ → Bool} {t : Bool} {values' y' : List Float} 
   unfolding walk_call walk_end
   walks_answer = rw (← position-same, ← tests_same) (go (walk_tests g S alphas buf b) (position g S alphas most buf b))
     where
-      go : (f : Fault) (at : Found) → placed_at at (answer S (behind f (end_at fits at))) ≡ placed_at at (answer S (behind f (end_at fits' at)))
+      go : (f : Fault) (at : Option ℕ) → placed_at at (answer S (behind f (end_at fits at))) ≡ placed_at at (answer S (behind f (end_at fits' at)))
       go (refused number place) at = refl
-      go (answered u) (At k) = ap (placed_at (At k)) (fits-answer k)
-      go (answered u) Nowhere = refl
+      go (answered u) (Some k) = ap (placed_at (Some k)) (fits-answer k)
+      go (answered u) None = refl
 
   walks_left : walk_tests g S alphas buf b ≡ none → SameLeft c t g.shape (walk_left g S alphas most buf b) (walk_left other S alphas most buf b)
   unfolding walk_left walk_end
   walks_left e = rw (e, sym tests_same ∙ e, ← position-same) (go (position g S alphas most buf b) refl)
     where
-      go : (f : Found) → position g S alphas most buf b ≡ f
+      go : (f : Option ℕ) → position g S alphas most buf b ≡ f
           → SameLeft c t g.shape (buffers g.shape S b (end_at fits f)) (buffers g.shape S b (end_at fits' f))
-      go (At k) q = fits-left k (chosen S most fits (length alphas) k (unfold position in q)).usable
-      go Nowhere q = buffers-turned c t g.shape S b (given_up 11 0) (given_up 11 0) refl (λ s h. absurd (given_up≢done h)) both-given_up
+      go (Some k) q = fits-left k (chosen S most fits (length alphas) k (unfold position in q)).usable
+      go None q = buffers-turned c t g.shape S b (given_up 11 0) (given_up 11 0) refl (λ s h. absurd (given_up≢done h)) both-given_up
 
   pub walk_law_passed : SameWalk c t g other S alphas most buf b
   unfolding walk_numbers

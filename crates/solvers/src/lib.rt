@@ -2,49 +2,27 @@
 // the documents' number and place; refused with 1 to 6 or 10, it changes no lent buffer, and with 7 it leaves the room it used at zero.
 #![tactic(auto)]
 
-ghost use Rattle.std.specs.Prelude.{◌≡◌, true, ◌+◌, ◌≤◌, length};
-ghost use Rattle.doubles.specs.Num as num;
-ghost use Rattle.doubles.specs.Answer.{none, verdict_of, ◌then◌};
-ghost use Rattle.designs.specs.Given.{given};
+ghost use Rattle.std.specs.Prelude.{◌≡◌, ◌≤◌, length, IfOk};
+ghost use Rattle.doubles.specs.Answer.{none, outcome_of};
+ghost use Rattle.designs.specs.Given.{handed, fault_of};
 ghost use Rattle.definition.specs.Call as call;
+ghost use Rattle.definition.specs.Inner.Problem.{task_in};
 
 use decisions::{check_early, check_handed, scratch_room};
-use definition::{Fit, Settings};
-use designs::Shape;
+use definition::problem::Problem;
+use definition::{Report, Settings};
+use designs::Matrix;
 use designs::inner::check_sized;
-use doubles::Verdict;
+use designs::tested::Tested;
+use doubles::Refusal;
 
 pub mod inner;
 
 // ---- the tests
 
-// 10, where there is room: else the prepared numbers are not read.
-fn check_numbers(prepared: &[f64], p: usize, room: bool) -> Verdict
-    requires { (p ≤ 8192) × (room ≡ true → p + p ≤ length prepared.now) }
-    ensures { verdict_of result ≡ num.pick room (call.handed_fault p prepared.now) none }
-{
-    if room {
-        return check_handed(prepared, p);
-    }
-    Verdict::Fine
-}
-
-// What was found first: by the tests before, or by those behind them.
-fn first_refusal(before: Verdict, behind: Verdict) -> Verdict
-    ensures { verdict_of result ≡ (verdict_of before then verdict_of behind) }
-{
-    match before {
-        Verdict::Refused(r) => Verdict::Refused(r),
-        Verdict::Fine => behind,
-    }
-}
-
 // All tests of a solve: 1, then the settings' 2, then 3 to 6, and 10 behind them.
-fn check_solve(
-    shape: Shape,
-    starts: &[u32],
-    rows: &[u32],
-    values: &[f64],
+fn check_solve<'a>(
+    x: &Matrix<'a>,
     y: &[f64],
     prepared: &[f64],
     settings: Settings,
@@ -52,67 +30,49 @@ fn check_solve(
     fit: &[f64],
     indices: &[u32],
     scratch: &[f64],
-) -> Verdict
-    ensures { let g = given shape starts.now rows.now values.now y.now in
-        let b = call.lent w.now fit.now indices.now scratch.now in
-        verdict_of result ≡ call.solve_fault g settings prepared.now b }
+) -> Result<Tested<'a>, Refusal>
+    ensures fault { let b = call.lent w.now fit.now indices.now scratch.now in
+        fault_of result ≡ call.solve_fault (handed x.now y.now) settings prepared.now b }
+    ensures design { IfOk result (λ t. t.matrix ≡ x.now) }
 {
-    if let Verdict::Refused(r) = check_early(shape, starts, rows, values, y, settings) {
-        return Verdict::Refused(r);
-    }
-    let room = inner::has_room(shape, settings, prepared, w, fit, indices, scratch);
-    let given = check_sized(shape, starts, rows, values, y, room);
-    let numbers = check_numbers(prepared, shape.p, room);
-    first_refusal(given, numbers)
+    check_early(x, y, settings)?;
+    let room = inner::has_room(x.shape, settings, prepared, w, fit, indices, scratch);
+    let tested = check_sized(x, y, room)?;
+    check_handed(prepared, x.shape.p)?;
+    Ok(tested)
 }
 
 // The run on the first places of each slice, behind the tests.
 fn solve_tested(
-    shape: Shape,
-    starts: &[u32],
-    rows: &[u32],
-    values: &[f64],
-    y: &[f64],
-    prepared: &[f64],
-    settings: Settings,
+    problem: &Problem<'_>,
     w: &mut [f64],
     fit: &mut [f64],
     indices: &mut [u32],
     scratch: &mut [f64],
-) -> Fit
-    requires { let b = call.lent w.old fit.old indices.old scratch.old in
-        call.solve_tests (given shape starts.now rows.now values.now y.now) settings prepared.now b ≡ none }
-    ensures { let g = given shape starts.now rows.now values.now y.now in
+) -> Result<Report, Refusal>
+    requires { let s = problem.now.x.matrix.shape in
+        (s.p ≤ length w.old) × (s.n ≤ length fit.old) × (s.p ≤ length indices.old)
+        × (call.scratch_room s problem.now.settings ≤ length scratch.old) }
+    ensures { let settings = problem.now.settings in
         let b = call.lent w.old fit.old indices.old scratch.old in
-        let end = call.solved (call.task_of g settings prepared.now) y.now settings in
-        (call.fit_of result ≡ call.answer settings end)
-        × (call.lent w.new fit.new indices.new scratch.new ≡ call.buffers shape settings b end) }
+        let end = call.solved (task_in problem.now) problem.now.y.now settings in
+        (outcome_of result ≡ call.answer settings end)
+        × (call.lent w.new fit.new indices.new scratch.new ≡ call.buffers problem.now.x.matrix.shape settings b end) }
 {
-    let p = shape.p;
-    let n = shape.n;
-    let twice = p + p;
-    let room = scratch_room(shape, settings);
+    let shape = problem.x.matrix.shape;
+    let room = scratch_room(shape, problem.settings);
     inner::solve_inside(
-        shape,
-        starts,
-        rows,
-        values,
-        y,
-        &prepared[..twice],
-        settings,
-        &mut w[..p],
-        &mut fit[..n],
-        &mut indices[..p],
+        problem,
+        &mut w[..shape.p],
+        &mut fit[..shape.n],
+        &mut indices[..shape.p],
         &mut scratch[..room],
     )
 }
 
 // The whole call.
 pub fn solve(
-    shape: Shape,
-    starts: &[u32],
-    rows: &[u32],
-    values: &[f64],
+    x: &Matrix<'_>,
     y: &[f64],
     prepared: &[f64],
     settings: Settings,
@@ -120,19 +80,19 @@ pub fn solve(
     fit: &mut [f64],
     indices: &mut [u32],
     scratch: &mut [f64],
-) -> Fit
-    ensures { let g = given shape starts.now rows.now values.now y.now in
+) -> Result<Report, Refusal>
+    ensures { let g = handed x.now y.now in
         let b = call.lent w.old fit.old indices.old scratch.old in
-        (call.fit_of result ≡ call.solve_call g settings prepared.now b)
-        × (call.lent w.new fit.new indices.new scratch.new
-        ≡ call.solve_left g settings prepared.now b) }
+        (outcome_of result ≡ call.solve_call g settings prepared.now b)
+        × (call.lent w.new fit.new indices.new scratch.new ≡ call.solve_left g settings prepared.now b) }
 {
-    match check_solve(
-        shape, starts, rows, values, y, prepared, settings, w, fit, indices, scratch,
-    ) {
-        Verdict::Refused(r) => Fit::Refused(r),
-        Verdict::Fine => solve_tested(
-            shape, starts, rows, values, y, prepared, settings, w, fit, indices, scratch,
-        ),
-    }
+    let tested = check_solve(x, y, prepared, settings, w, fit, indices, scratch)?;
+    let p = x.shape.p;
+    let problem = Problem {
+        x: tested,
+        y,
+        prepared: &prepared[..p + p],
+        settings,
+    };
+    solve_tested(&problem, w, fit, indices, scratch)
 }

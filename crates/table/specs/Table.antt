@@ -18,6 +18,7 @@ use Rattle.designs.specs.Given.{Given, given}
 use Rattle.datafits.specs.Calls.{value_call}
 use Rattle.worksets.specs.Call.{ws_call, ws_left}
 use Rattle.definition.specs.Preparation.{prepare_left}
+use Rattle.definition.specs.Status.{status_number}
 use Rattle.definition.specs.Call.{Lent}
 use Rattle.definition.specs.Pair.{pair_call, pair_left}
 use Rattle.definition.specs.declared.Settings.{Settings}
@@ -64,7 +65,7 @@ told f (refused number place) = number ∷ place ∷ []
 
 -- status, violation, iterations, epochs, extrapolations
 abbrev pub report_line : Report → List ℕ
-report_line r = r.status ∷ to_bits binary64 r.violation ∷ r.iterations ∷ r.epochs ∷ r.extrapolations ∷ []
+report_line r = status_number r.status ∷ to_bits binary64 r.violation ∷ r.iterations ∷ r.epochs ∷ r.extrapolations ∷ []
 
 -- weights, fit, indices, scratch
 abbrev pub lent_line : Lent → List ℕ

@@ -1,7 +1,6 @@
 // Reads a problem file on standard input and prints the listing of its fit, or the line of its refusal.
 #![tactic(auto)]
 
-use listings::Written;
 use std::io;
 use std::io::{Read, Write};
 
@@ -10,7 +9,7 @@ fn main(rt: HostRuntime) -> io::Result<()> {
     rt.stdin().take(65536).read_to_end(&mut file)?;
     let mut out = [0u8; 8192];
     match answers::answer(file.as_slice(), &mut out) {
-        Written::Refused(_) => Ok(()),
-        Written::Bytes(n) => rt.stdout().write_all(&out[..n]),
+        Err(_) => Ok(()),
+        Ok(n) => rt.stdout().write_all(&out[..n]),
     }
 }

@@ -3,23 +3,26 @@
 // prepared numbers are zero, and so is all that is lent besides where no alpha is usable, which is refused with 11.
 #![tactic(auto)]
 
-ghost use Rattle.std.specs.Prelude.{◌≡◌, true, ◌+◌, ◌<◌, length};
+ghost use Rattle.std.specs.Prelude.{◌≡◌, true, ◌+◌, ◌≤◌, length, IfOk};
 ghost use Rattle.doubles.specs.Num as num;
-ghost use Rattle.doubles.specs.Steps.{tab, zeros};
-ghost use Rattle.doubles.specs.Answer.{none, verdict_of};
-ghost use Rattle.designs.specs.Given.{given};
+ghost use Rattle.doubles.specs.Steps.{zeros};
+ghost use Rattle.doubles.specs.Answer.{none, outcome_of};
+ghost use Rattle.designs.specs.Given.{handed, fault_of};
 ghost use Rattle.definition.specs.Preparation as prep;
 ghost use Rattle.definition.specs.Call as call;
 ghost use Rattle.definition.specs.Walk as walk';
+ghost use Rattle.definition.specs.Inner.Problem.{given_in};
 ghost use Rattle.epochs.specs.Inner.Reading.{Ready};
 ghost use Rattle.walks.specs.Inner.Fits as fits';
 
 use columns::clear;
 use decisions::{at_alpha, check_early, check_list, is_usable, is_wanted, scratch_room};
-use definition::{Fit, Settings, Usable, Walk};
-use designs::Shape;
+use definition::problem::Problem;
+use definition::{Report, Settings, Usable};
+use designs::Matrix;
 use designs::inner::check_sized;
-use doubles::{Refusal, Verdict};
+use designs::tested::Tested;
+use doubles::{Reason, Refusal};
 use passes::prepare;
 use solvers::inner::{has_room, solve_inside};
 use worksets::inner::{clear_indices, nonzeros};
@@ -27,11 +30,8 @@ use worksets::inner::{clear_indices, nonzeros};
 // ---- the tests
 
 // 1, the settings' 2, the list's, then 3 to 6. The settings are tested with a good alpha in place of theirs.
-fn check_walk(
-    shape: Shape,
-    starts: &[u32],
-    rows: &[u32],
-    values: &[f64],
+fn check_walk<'a>(
+    x: &Matrix<'a>,
     y: &[f64],
     alphas: &[f64],
     prepared: &[f64],
@@ -40,200 +40,120 @@ fn check_walk(
     fit: &[f64],
     indices: &[u32],
     scratch: &[f64],
-) -> Verdict
-    ensures { let g = given shape starts.now rows.now values.now y.now in
-        let b = call.lent w.now fit.now indices.now scratch.now in
-        verdict_of result ≡ walk'.walk_tests g settings alphas.now prepared.now b }
+) -> Result<Tested<'a>, Refusal>
+    ensures fault { let b = call.lent w.now fit.now indices.now scratch.now in
+        fault_of result ≡ walk'.walk_tests (handed x.now y.now) settings alphas.now prepared.now b }
+    ensures design { IfOk result (λ t. t.matrix ≡ x.now) }
 {
-    let tested = at_alpha(settings, 0.0);
-    if let Verdict::Refused(r) = check_early(shape, starts, rows, values, y, tested) {
-        return Verdict::Refused(r);
-    }
-    if let Verdict::Refused(r) = check_list(alphas) {
-        return Verdict::Refused(r);
-    }
-    let room = has_room(shape, tested, prepared, w, fit, indices, scratch);
-    check_sized(shape, starts, rows, values, y, room)
+    let good = at_alpha(settings, 0.0);
+    check_early(x, y, good)?;
+    check_list(alphas)?;
+    let room = has_room(x.shape, good, prepared, w, fit, indices, scratch);
+    check_sized(x, y, room)
 }
 
 // ---- the fits
 
-// 11: no alpha is usable.
-fn none_usable() -> Walk
-    ensures { walk'.walk_of result ≡ Rattle.doubles.specs.Answer.refused 11 0 }
+// A fit with so many nonzero weights, if it is usable.
+fn judge(
+    fitted: Result<Report, Refusal>,
+    nonzero: usize,
+    most: usize,
+    position: usize,
+) -> Option<Usable>
+    ensures { fits'.usable_of result ≡ fits'.judged (outcome_of fitted) nonzero most position }
 {
-    Walk::Refused(Refusal {
-        number: 11,
-        place: 0,
-    })
-}
-
-// A fit with so many nonzero weights, if it is usable; else 11.
-fn judge(fitted: Fit, nonzero: usize, most: usize, position: usize) -> Walk
-    ensures { walk'.walk_of result ≡ fits'.judged fitted nonzero most position }
-{
-    match fitted {
-        Fit::Refused(_) => none_usable(),
-        Fit::Done(report) => {
-            if is_wanted(report, nonzero, most) {
-                return Walk::Found(Usable {
-                    position: position,
-                    report: report,
-                });
-            }
-            none_usable()
-        }
+    let report = fitted.ok()?;
+    if !is_wanted(report, nonzero, most) {
+        return None;
     }
+    Some(Usable { position, report })
 }
 
-// The settings with the alpha at a place of the list.
-fn settings_at(settings: Settings, alphas: &[f64], k: usize) -> Settings
-    requires { k < length alphas.now }
-    ensures { result ≡ walk'.at_alpha settings (num.at alphas.now k) }
-{
-    at_alpha(settings, alphas[k])
-}
-
-// One fit, from zero weights, if it is usable; else 11.
+// One fit, from zero weights, if it is usable.
 fn try_fit(
-    shape: Shape,
-    starts: &[u32],
-    rows: &[u32],
-    values: &[f64],
-    y: &[f64],
-    prepared: &[f64],
-    settings: Settings,
+    problem: &Problem<'_>,
     most: usize,
     position: usize,
     w: &mut [f64],
     fit: &mut [f64],
     indices: &mut [u32],
     scratch: &mut [f64],
-) -> Walk
-    requires { Ready (given shape starts.now rows.now values.now y.now) settings w.old fit.old scratch.old
-        × (length prepared.now ≡ shape.p + shape.p) × (length indices.old ≡ shape.p) }
-    ensures { let g = given shape starts.now rows.now values.now y.now in
-        let end = fits'.fit_on g prepared.now settings in
-        (walk'.walk_of result ≡ fits'.said settings most position end)
-        × fits'.Holds shape settings end w.new fit.new indices.new scratch.new }
+) -> Option<Usable>
+    requires { Ready problem.now w.old fit.old scratch.old × (length indices.old ≡ problem.now.x.matrix.shape.p) }
+    ensures { let settings = problem.now.settings in
+        let end = fits'.fit_on (given_in problem.now) problem.now.prepared.now settings in
+        (fits'.usable_of result ≡ fits'.said settings most position end)
+        × fits'.Holds problem.now.x.matrix.shape settings end w.new fit.new indices.new scratch.new }
 {
-    let fitted = solve_inside(
-        shape, starts, rows, values, y, prepared, settings, w, fit, indices, scratch,
-    );
+    let fitted = solve_inside(problem, w, fit, indices, scratch);
     judge(fitted, nonzeros(w), most, position)
 }
 
-// The first usable fit. Where there is none, the buffers hold what the last fit left.
+// The first usable fit: of each, the settings are the problem's with its alpha. Where there is none, the buffers hold what the last fit left.
 fn first_usable(
-    shape: Shape,
-    starts: &[u32],
-    rows: &[u32],
-    values: &[f64],
-    y: &[f64],
+    problem: &Problem<'_>,
     alphas: &[f64],
-    prepared: &[f64],
-    settings: Settings,
     most: usize,
     w: &mut [f64],
     fit: &mut [f64],
     indices: &mut [u32],
     scratch: &mut [f64],
-) -> Walk
-    requires { Ready (given shape starts.now rows.now values.now y.now) (walk'.at_alpha settings num.#0) w.old fit.old scratch.old
-        × (length prepared.now ≡ shape.p + shape.p) × (length indices.old ≡ shape.p) × (walk'.list_legal alphas.now ≡ true) }
-    ensures { let g = given shape starts.now rows.now values.now y.now in
-        let fits = fits'.fit_with g settings alphas.now prepared.now in
+) -> Option<Usable>
+    requires { Ready problem.now w.old fit.old scratch.old × (length indices.old ≡ problem.now.x.matrix.shape.p)
+        × (walk'.list_legal alphas.now ≡ true) }
+    ensures { let settings = problem.now.settings in
+        let fits = fits'.fit_with (given_in problem.now) settings alphas.now problem.now.prepared.now in
         let many = length alphas.now in
-        (walk'.walk_of result ≡ fits'.answer_of settings most fits many)
-        × fits'.HoldsAt shape settings fits (walk'.first_usable settings most fits many) w.new fit.new indices.new
-        scratch.new }
+        (fits'.usable_of result ≡ fits'.answer_of settings most fits many)
+        × fits'.HoldsAt problem.now.x.matrix.shape settings fits (walk'.first_usable settings most fits many) w.new fit.new
+        indices.new scratch.new }
 {
-    let mut k = 0;
-    while k < alphas.len() {
-        if let Walk::Found(usable) = try_fit(
-            shape,
-            starts,
-            rows,
-            values,
-            y,
-            prepared,
-            settings_at(settings, alphas, k),
-            most,
-            k,
-            w,
-            fit,
-            indices,
-            scratch,
-        ) {
-            return Walk::Found(usable);
+    for (k, alpha) in alphas.iter().enumerate() {
+        let with_alpha = Problem {
+            x: problem.x,
+            y: problem.y,
+            prepared: problem.prepared,
+            settings: at_alpha(problem.settings, *alpha),
+        };
+        if let Some(usable) = try_fit(&with_alpha, most, k, w, fit, indices, scratch) {
+            return Some(usable);
         }
-        k += 1;
     }
-    none_usable()
+    None
 }
 
 // The same on the tile's own numbers, where all of them can be used; else no alpha is usable.
 fn try_prepared(
-    shape: Shape,
-    starts: &[u32],
-    rows: &[u32],
-    values: &[f64],
-    y: &[f64],
+    problem: &Problem<'_>,
     alphas: &[f64],
-    prepared: &[f64],
-    settings: Settings,
     most: usize,
     w: &mut [f64],
     fit: &mut [f64],
     indices: &mut [u32],
     scratch: &mut [f64],
-) -> Walk
-    requires { let g = given shape starts.now rows.now values.now y.now in
-        Ready g (walk'.at_alpha settings num.#0) w.old fit.old scratch.old
-        × (prepared.now ≡ prep.prepared_of g) × (length indices.old ≡ shape.p) × (walk'.list_legal alphas.now ≡ true) }
-    ensures { let g = given shape starts.now rows.now values.now y.now in
-        let fits = fits'.fit_passed g settings alphas.now in
+) -> Option<Usable>
+    requires { Ready problem.now w.old fit.old scratch.old × (length indices.old ≡ problem.now.x.matrix.shape.p)
+        × (walk'.list_legal alphas.now ≡ true) × (problem.now.prepared.now ≡ prep.prepared_of (given_in problem.now)) }
+    ensures { let settings = problem.now.settings in
+        let fits = fits'.fit_passed (given_in problem.now) settings alphas.now in
         let many = length alphas.now in
-        (walk'.walk_of result ≡ fits'.answer_of settings most fits many)
-        × fits'.HoldsAt shape settings fits (walk'.first_usable settings most fits many) w.new fit.new indices.new
-        scratch.new }
+        (fits'.usable_of result ≡ fits'.answer_of settings most fits many)
+        × fits'.HoldsAt problem.now.x.matrix.shape settings fits (walk'.first_usable settings most fits many) w.new fit.new
+        indices.new scratch.new }
 {
-    if is_usable(prepared, shape.p) {
-        return first_usable(
-            shape, starts, rows, values, y, alphas, prepared, settings, most, w, fit, indices,
-            scratch,
-        );
+    if !is_usable(problem.prepared, problem.x.matrix.shape.p) {
+        return None;
     }
-    none_usable()
-}
-
-// What a walk without a usable alpha leaves: zeros.
-fn give_up(
-    refusal: Refusal,
-    w: &mut [f64],
-    fit: &mut [f64],
-    indices: &mut [u32],
-    scratch: &mut [f64],
-) -> Walk
-    ensures { (walk'.walk_of result ≡ Rattle.doubles.specs.Answer.refused refusal.number refusal.place)
-        × (w.new ≡ zeros (length w.old)) × (fit.new ≡ zeros (length fit.old))
-        × (indices.new ≡ tab (λ j. 0) (length indices.old)) × (scratch.new ≡ zeros (length scratch.old)) }
-{
-    clear(w);
-    clear(fit);
-    clear_indices(indices);
-    clear(scratch);
-    Walk::Refused(refusal)
+    first_usable(problem, alphas, most, w, fit, indices, scratch)
 }
 
 // ---- the walk behind its tests
 
-// Over buffers of exactly their room: the numbers are prepared, used and cleared.
+// Over buffers of exactly their room: the numbers are prepared, used and cleared, and where no alpha is usable, all else is cleared too. The settings
+// have a good alpha.
 fn walk_inside(
-    shape: Shape,
-    starts: &[u32],
-    rows: &[u32],
-    values: &[f64],
+    x: &Tested<'_>,
     y: &[f64],
     alphas: &[f64],
     prepared: &mut [f64],
@@ -243,79 +163,42 @@ fn walk_inside(
     fit: &mut [f64],
     indices: &mut [u32],
     scratch: &mut [f64],
-) -> Walk
-    requires { Ready (given shape starts.now rows.now values.now y.now) (walk'.at_alpha settings num.#0) w.old fit.old scratch.old
-        × (length prepared.old ≡ shape.p + shape.p) × (length indices.old ≡ shape.p) × (walk'.list_legal alphas.now ≡ true) }
-    ensures { let g = given shape starts.now rows.now values.now y.now in
-        let fits = fits'.fit_passed g settings alphas.now in
+) -> Result<Usable, Refusal>
+    requires { let s = x.now.matrix.shape in
+        (length y.now ≡ s.n) × (length prepared.old ≡ s.p + s.p) × (call.settings_fault settings ≡ none)
+        × (length w.old ≡ s.p) × (length fit.old ≡ s.n) × (length indices.old ≡ s.p)
+        × (length scratch.old ≡ call.scratch_room s settings) × (walk'.list_legal alphas.now ≡ true) }
+    ensures { let s = x.now.matrix.shape in
+        let fits = fits'.fit_passed (handed x.now.matrix y.now) settings alphas.now in
         let many = length alphas.now in
-        (walk'.walk_of result ≡ fits'.answer_of settings most fits many)
-        × fits'.Holds shape settings (fits'.end_of settings most fits many) w.new fit.new indices.new scratch.new
-        × (prepared.new ≡ zeros (shape.p + shape.p)) }
+        (outcome_of result ≡ fits'.answer_of settings most fits many)
+        × fits'.Holds s settings (fits'.end_of settings most fits many) w.new fit.new indices.new scratch.new
+        × (prepared.new ≡ zeros (s.p + s.p)) }
 {
-    prepare(shape, starts, rows, values, y, prepared);
-    let tried = try_prepared(
-        shape, starts, rows, values, y, alphas, prepared, settings, most, w, fit, indices, scratch,
-    );
+    prepare(x, y, prepared);
+    let problem = Problem {
+        x: *x,
+        y,
+        prepared,
+        settings,
+    };
+    let tried = try_prepared(&problem, alphas, most, w, fit, indices, scratch);
     clear(prepared);
     match tried {
-        Walk::Refused(r) => give_up(r, w, fit, indices, scratch),
-        Walk::Found(usable) => Walk::Found(usable),
+        Some(usable) => Ok(usable),
+        None => {
+            clear(w);
+            clear(fit);
+            clear_indices(indices);
+            clear(scratch);
+            Err(Reason::NoAlpha.at(0))
+        }
     }
-}
-
-// On the first places of each slice.
-fn walk_tested(
-    shape: Shape,
-    starts: &[u32],
-    rows: &[u32],
-    values: &[f64],
-    y: &[f64],
-    alphas: &[f64],
-    prepared: &mut [f64],
-    settings: Settings,
-    most: usize,
-    w: &mut [f64],
-    fit: &mut [f64],
-    indices: &mut [u32],
-    scratch: &mut [f64],
-) -> Walk
-    requires { let b = call.lent w.old fit.old indices.old scratch.old in
-        walk'.walk_tests (given shape starts.now rows.now values.now y.now) settings alphas.now prepared.old b ≡ none }
-    ensures { let g = given shape starts.now rows.now values.now y.now in
-        let b = call.lent w.old fit.old indices.old scratch.old in
-        (walk'.walk_of result ≡ walk'.walk_call g settings alphas.now most prepared.old b)
-        × (call.lent w.new fit.new indices.new scratch.new
-        ≡ walk'.walk_left g settings alphas.now most prepared.old b)
-        × (prepared.new ≡ walk'.walk_numbers g settings alphas.now prepared.old b) }
-{
-    let p = shape.p;
-    let n = shape.n;
-    let twice = p + p;
-    let room = scratch_room(shape, at_alpha(settings, 0.0));
-    walk_inside(
-        shape,
-        starts,
-        rows,
-        values,
-        y,
-        alphas,
-        &mut prepared[..twice],
-        settings,
-        most,
-        &mut w[..p],
-        &mut fit[..n],
-        &mut indices[..p],
-        &mut scratch[..room],
-    )
 }
 
 // The whole call. `most` is the largest number of nonzero weights that is wanted.
 pub fn walk(
-    shape: Shape,
-    starts: &[u32],
-    rows: &[u32],
-    values: &[f64],
+    x: &Matrix<'_>,
     y: &[f64],
     alphas: &[f64],
     prepared: &mut [f64],
@@ -325,21 +208,27 @@ pub fn walk(
     fit: &mut [f64],
     indices: &mut [u32],
     scratch: &mut [f64],
-) -> Walk
-    ensures { let g = given shape starts.now rows.now values.now y.now in
+) -> Result<Usable, Refusal>
+    ensures { let g = handed x.now y.now in
         let b = call.lent w.old fit.old indices.old scratch.old in
-        (walk'.walk_of result ≡ walk'.walk_call g settings alphas.now most prepared.old b)
-        × (call.lent w.new fit.new indices.new scratch.new
-        ≡ walk'.walk_left g settings alphas.now most prepared.old b)
+        (outcome_of result ≡ walk'.walk_call g settings alphas.now most prepared.old b)
+        × (call.lent w.new fit.new indices.new scratch.new ≡ walk'.walk_left g settings alphas.now most prepared.old b)
         × (prepared.new ≡ walk'.walk_numbers g settings alphas.now prepared.old b) }
 {
-    match check_walk(
-        shape, starts, rows, values, y, alphas, prepared, settings, w, fit, indices, scratch,
-    ) {
-        Verdict::Refused(r) => Walk::Refused(r),
-        Verdict::Fine => walk_tested(
-            shape, starts, rows, values, y, alphas, prepared, settings, most, w, fit, indices,
-            scratch,
-        ),
-    }
+    let tested = check_walk(x, y, alphas, prepared, settings, w, fit, indices, scratch)?;
+    let shape = x.shape;
+    let good = at_alpha(settings, 0.0);
+    let room = scratch_room(shape, good);
+    walk_inside(
+        &tested,
+        y,
+        alphas,
+        &mut prepared[..shape.p + shape.p],
+        good,
+        most,
+        &mut w[..shape.p],
+        &mut fit[..shape.n],
+        &mut indices[..shape.p],
+        &mut scratch[..room],
+    )
 }

@@ -1,5 +1,5 @@
 -- What the tests of room and of a list of features say. Assumes nothing.
-use mathlib.Core.Path.{◌≡◌, refl, sym}
+use mathlib.Core.Path.{◌≡◌, refl, sym, ◌∙◌}
 use mathlib.Core.Bool.{Bool, true, false}
 use Prim.Native.Nat.{ℕ, ◌+◌, ◌/◌, ◌<◌}
 use native.Mathlib.Omega.{arith}
@@ -7,6 +7,7 @@ use mathlib.Core.List.{List}
 use lib.Dec.{leb, ltb}
 use lib.ListN.{length, get_or}
 use borrow.Author.Tests.{le-leb, lt-leb, leb-true, leb-false, ltb-true}
+use Rattle.doubles.specs.Num.{◌and◌}
 use Rattle.doubles.proofs.Laws.Steps.{all-each}
 use Rattle.datafits.specs.Calls.{all_below}
 
@@ -22,3 +23,12 @@ halved p n = go (leb p (n / 2)) refl
 pub each_below : (ws : List ℕ) (p : ℕ) → all_below ws p ≡ true → (k : ℕ) → k < length ws → get_or ws k 0 < p
 unfolding all_below
 each_below ws p h k l = ltb-true (get_or ws k 0) p (all-each (λ k. ltb (get_or ws k 0) p) (length ws) h k l)
+
+-- what a chain of two tests gives, by the first of them
+pub chain_on : {a b r : Bool} → a ≡ true → r ≡ b → r ≡ a and b
+unfolding ◌and◌
+chain_on h e = rw h e
+
+pub chain_broken : {a r : Bool} (b : Bool) → a ≡ false → r ≡ a → r ≡ a and b
+unfolding ◌and◌
+chain_broken b h e = rw h (e ∙ h)

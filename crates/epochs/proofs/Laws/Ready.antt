@@ -10,11 +10,15 @@ use lib.Ieee.{Float}
 use Rattle.doubles.specs.Num.{pick}
 use Rattle.designs.specs.declared.Shape.{Shape}
 use Rattle.definition.specs.Call.{scratch_room}
+use Rattle.definition.specs.Epoch.{task, Point}
+use Rattle.definition.specs.Extrapolation.{tried}
+use Rattle.definition.specs.Inner.Problem.{task_in}
 use Rattle.definition.specs.declared.Settings.{Settings}
 use Rattle.definition.specs.declared.problem.Problem.{Problem}
-use Rattle.extrapolation.specs.Inner.Places.{StepReady}
+use Rattle.extrapolation.specs.Inner.Places.{StepReady, task_with, kept_in, kept_then}
+use Rattle.extrapolation.specs.declared.step.Step.{Step}
 use Rattle.extrapolation.proofs.Laws.Scratch.{room_split}
-use Rattle.epochs.specs.Inner.Reading.{Ready, Features}
+use Rattle.epochs.specs.Inner.Reading.{Ready, Features, IsStepOf}
 
 -- ---- the scratch's room
 module _ (s : Shape) (S : Settings) where
@@ -42,14 +46,30 @@ module _ {P : Problem} {w fit scratch : List Float} (R : Ready P w fit scratch) 
   ready_still w' fit' scratch' ew ef es = record { weights = ew ∙ R.weights; fits = ef ∙ R.fits; room = es ∙ R.room }
 
   -- with extrapolation on, its step may be taken
-  pub step_ready : {ws : List ℕ} → Features P ws → P.settings.extrapolate ≡ true → StepReady P ws w fit scratch
-  step_ready F on = record {
+  pub step_ready : {ws : List ℕ} (s : Step) → IsStepOf P s → Features P ws → P.settings.extrapolate ≡ true → StepReady s ws w fit scratch
+  step_ready s h F on = record {
     sized = record {
-      on = on;
-      weights = R.weights;
-      room = R.room ∙ room_on P.x.matrix.shape P.settings on;
-      few = F.few;
-      below = F.below;
+      weights = rw h.0 R.weights;
+      room = rw (h.3, h.0) (R.room ∙ room_on P.x.matrix.shape P.settings on);
+      few = rw h.0 F.few;
+      below = λ k l. rw h.0 (F.below k l);
     };
-    fits = R.fits;
+    fits = rw h.0 R.fits;
   }
+
+-- and what it tries and keeps is the problem's
+module _ (s : Step) (P : Problem) (h : IsStepOf P s) where
+  pub tried_same : (e : ℕ) (ws : List ℕ) (w l : List Float) (x : Point)
+      → tried (task_with s P.prepared.now) s.y.now s.depth e ws (kept_then s.x.matrix.shape s.depth e ws w l) x
+      ≡ tried (task_in P) P.y.now P.settings.depth e ws (kept_then P.x.matrix.shape P.settings.depth e ws w l) x
+  tried_same e ws w l x =
+      λ i. (let m = (h.0 i).matrix in
+      let T = task m.shape m.starts.now m.rows.now m.values.now (h.2 i) P.prepared.now in
+      tried T (h.1 i).now (h.3 i) e ws (kept_then m.shape (h.3 i) e ws w l) x)
+
+  pub kept-same : (l : List Float) → kept_in s.x.matrix.shape s.depth l ≡ kept_in P.x.matrix.shape P.settings.depth l
+  kept-same l = λ i. kept_in (h.0 i).matrix.shape (h.3 i) l
+
+  pub kept_then_same : (e : ℕ) (ws : List ℕ) (w l : List Float)
+      → kept_then s.x.matrix.shape s.depth e ws w l ≡ kept_then P.x.matrix.shape P.settings.depth e ws w l
+  kept_then_same e ws w l = λ i. kept_then (h.0 i).matrix.shape (h.3 i) e ws w l

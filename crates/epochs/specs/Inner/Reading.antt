@@ -7,6 +7,7 @@ use Rattle.definition.specs.Run.{Inner}
 use Rattle.definition.specs.Call.{scratch_room}
 use Rattle.definition.specs.declared.problem.Problem.{Problem}
 use Rattle.extrapolation.specs.Inner.Places.{kept_in, point_with}
+use Rattle.extrapolation.specs.declared.step.Step.{Step}
 use Rattle.epochs.specs.declared.Counts.{Counts}
 use Rattle.epochs.specs.declared.Pace.{Pace}
 use Rattle.epochs.specs.declared.Pace.TheVariants.{Going, Stopped}
@@ -29,6 +30,10 @@ abbrev pub counts_of : Result (Pace Counts) NotFinite → Counts → Counts
 counts_of (Ok (Going d)) c = d
 counts_of (Ok (Stopped d)) c = d
 counts_of (Err e) c = c
+
+-- what an extrapolation looks at is the problem's
+abbrev pub IsStepOf : Problem → Step → Type 0
+IsStepOf P s = (s.x ≡ P.x) × (s.y ≡ P.y) × (s.penalty ≡ P.settings.penalty) × (s.depth ≡ P.settings.depth)
 
 -- ---- what the loops ask for
 -- each buffer has the room that the problem asks for

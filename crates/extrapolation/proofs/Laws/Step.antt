@@ -1,9 +1,9 @@
 -- What the step's functions leave behind, each from what its calls promise. Assumes nothing.
 use mathlib.Core.Path.{◌≡◌, sym, ap, ◌∙◌}
-use Prim.Native.Nat.{ℕ, ◌+◌, ◌-◌, ◌*◌, ◌%◌, ◌≤◌, ◌<◌}
+use Prim.Native.Nat.{ℕ, ◌+◌, ◌-◌, ◌*◌, ◌%◌}
 use native.Mathlib.Omega.{arith}
 use borrow.Rule.Slice.PartMut.{put_mid}
-use mathlib.Core.List.{List}
+use mathlib.Core.List.{List, []}
 use lib.ListN.{length, take, drop}
 use lib.Ieee.{Float}
 use Rattle.doubles.specs.Buffer.{put}
@@ -12,9 +12,8 @@ use Rattle.designs.specs.declared.Shape.{Shape}
 use Rattle.designs.specs.declared.Matrix.{Matrix}
 use Rattle.designs.specs.Design.{of_matrix, extrapolated}
 use Rattle.definition.specs.Epoch.{Task, Point}
-use Rattle.definition.specs.Inner.Problem.{task_in}
-use Rattle.definition.specs.declared.problem.Problem.{Problem}
-use Rattle.definition.proofs.Laws.Settings.{deep, shallow}
+use Rattle.extrapolation.specs.Inner.Places.{task_with}
+use Rattle.extrapolation.specs.declared.step.Step.{Step}
 use Rattle.definition.specs.Extrapolation.{Tried, candidate, coefficients, objective_of, extrapolate, tried, gathered, kept_now}
 use Rattle.extrapolation.specs.Inner.Places.{Sized, StepReady, Laid, kept_in, old_at, fit_at, point_with, chosen_by, tried_from}
 use Rattle.extrapolation.proofs.Laws.Scratch.{room_split, old_put, kept_then, both-put, old_long, new-long}
@@ -26,15 +25,7 @@ module _ (s : Shape) (K : ℕ) where
   unfolding old_at
   old_length l w h k = let r = room_split K s.p s.n in length-put l ((2 * K + 2) * s.p) w (omega arith)
 
--- with extrapolation on, the depth is in its range
-module _ {P : Problem} {ws : List ℕ} {w l : List Float} (S : Sized P ws w l) where
-  pub at_least : 0 < P.settings.depth
-  at_least = deep P.settings P.legal S.on
-
-  pub at_most : P.settings.depth ≤ 10
-  at_most = shallow P.settings P.legal S.on
-
-module _ (P : Problem) where
+module _ (P : Step) where
   abbrev x : Matrix
   x = P.x.matrix
 
@@ -42,10 +33,10 @@ module _ (P : Problem) where
   s = P.x.matrix.shape
 
   abbrev K : ℕ
-  K = P.settings.depth
+  K = P.depth
 
-  abbrev T : Task
-  T = task_in P
+  abbrev T : List Float → Task
+  T = task_with P
 
   -- `make_candidate`
   pub made : (c : List Float) (ws : List ℕ) (w l xs v ys : List Float) (a b o f e : ℕ) → Sized P ws w l → Laid P a b o f e → xs ≡ w
@@ -73,21 +64,35 @@ module _ (P : Problem) where
       (new, R.fits ∙ sym new, hv ∙ R.sized.weights ∙ sym old)
 
   -- `try_candidate`
-  pub chosen_here : (ws : List ℕ) (w fit l z c v m : List Float) (before : Float) (a b o f e : ℕ) (r : Tried)
+  pub chosen_here : (hs : List Float) (ws : List ℕ) (w fit l z c v m : List Float) (before : Float) (a b o f e : ℕ) (r : Tried)
       → StepReady P ws w fit l → Laid P a b o f e
       → (v ≡ candidate K s.p ws (kept_in s K l) c)
       × (m ≡ put (put l (old_at s K) w) (fit_at s K) (extrapolated (of_matrix x) ws v))
       × (length (extrapolated (of_matrix x) ws v) ≡ s.n)
-      → before ≡ objective_of P.settings.penalty P.y.now w fit → c ≡ coefficients K z
-      → r ≡ chosen_by P.settings.penalty P.y.now before (point_with v (take (e - f) (drop f m))) (point_with (take (f - o) (drop o m)) fit)
-      → (r ≡ tried_from T P.y.now K ws (kept_in s K l) z (point_with w fit)) × (kept_in s K m ≡ kept_in s K l)
-  chosen_here ws w fit l z c v m before a b o f e r R at q eb ec er =
+      → before ≡ objective_of P.penalty P.y.now w fit → c ≡ coefficients K z
+      → r ≡ chosen_by P.penalty P.y.now before (point_with v (take (e - f) (drop f m))) (point_with (take (f - o) (drop o m)) fit)
+      → (r ≡ tried_from (T hs) P.y.now K ws (kept_in s K l) z (point_with w fit)) × (kept_in s K m ≡ kept_in s K l)
+  chosen_here hs ws w fit l z c v m before a b o f e r R at q eb ec er =
       let X = extrapolated (of_matrix x) ws v in
       let new : take (e - f) (drop f m) ≡ X = both-fit s K l w X R.sized.weights q.2 R.sized.room m o f e q.1 at.2 at.3 at.4 in
       let old : take (f - o) (drop o m) ≡ w = both_old s K l w X R.sized.weights q.2 R.sized.room m o f q.1 at.2 at.3 in (
-        tried_from_lem T P.y.now K ws (kept_in s K l) z c w fit v _ _ before r er eb new old q.0 ec,
+        tried_from_lem (T hs) P.y.now K ws (kept_in s K l) z c w fit v _ _ before r er eb new old q.0 ec,
         both-kept s K l w X R.sized.weights q.2 R.sized.room m q.1,
       )
+
+  -- for any prepared numbers
+  pub chosen_all : (ws : List ℕ) (w fit l z c v m : List Float) (before : Float) (a b o f e : ℕ) (r : Tried)
+      → StepReady P ws w fit l → Laid P a b o f e
+      → (v ≡ candidate K s.p ws (kept_in s K l) c)
+      × (m ≡ put (put l (old_at s K) w) (fit_at s K) (extrapolated (of_matrix x) ws v))
+      × (length (extrapolated (of_matrix x) ws v) ≡ s.n)
+      → before ≡ objective_of P.penalty P.y.now w fit → c ≡ coefficients K z
+      → r ≡ chosen_by P.penalty P.y.now before (point_with v (take (e - f) (drop f m))) (point_with (take (f - o) (drop o m)) fit)
+      → ((hs : List Float) → r ≡ tried_from (T hs) P.y.now K ws (kept_in s K l) z (point_with w fit)) × (kept_in s K m ≡ kept_in s K l)
+  chosen_all ws w fit l z c v m before a b o f e r R at q eb ec er = (
+    λ hs. (chosen_here hs ws w fit l z c v m before a b o f e r R at q eb ec er).0,
+    (chosen_here [] ws w fit l z c v m before a b o f e r R at q eb ec er).1,
+  )
 
   -- `anderson_accel`: the row is written
   pub row-left : (j : ℕ) (ws : List ℕ) (w fit l ks : List Float) (a b o f e : ℕ)
@@ -97,7 +102,7 @@ module _ (P : Problem) where
   row-left j ws w fit l ks a b o f e R at h q = row_kept s K l a b j at.0 at.1 R.sized.room ks h ws w q
 
   -- and the step is tried
-  pub step-tried : (j : ℕ) (ws : List ℕ) (m n kept : List Float) (x : Point) (r : Tried) → kept_in s K m ≡ kept → j % (K + 1) ≡ K
-      → (r ≡ extrapolate T P.y.now K ws (kept_in s K m) x) × (kept_in s K n ≡ kept_in s K m)
-      → (r ≡ tried T P.y.now K j ws kept x) × (kept_in s K n ≡ kept)
-  step-tried j ws m n kept x r row h t = (is-due T P.y.now K j ws kept x h r (t.0 ∙ rw row), t.1 ∙ row)
+  pub step-tried : (hs : List Float) (j : ℕ) (ws : List ℕ) (m n kept : List Float) (x : Point) (r : Tried) → kept_in s K m ≡ kept → j % (K + 1) ≡ K
+      → (r ≡ extrapolate (T hs) P.y.now K ws (kept_in s K m) x) × (kept_in s K n ≡ kept_in s K m)
+      → (r ≡ tried (T hs) P.y.now K j ws kept x) × (kept_in s K n ≡ kept)
+  step-tried hs j ws m n kept x r row h t = (is-due (T hs) P.y.now K j ws kept x h r (t.0 ∙ rw row), t.1 ∙ row)

@@ -16,7 +16,7 @@ use Rattle.definition.specs.Epoch.{Task, Point}
 use Rattle.definition.specs.Extrapolation as ext
 use Rattle.definition.specs.Extrapolation.{Tried, keeps, combined, candidate, coefficients, system, objective_of, better, chosen, candidate_of}
 use Rattle.definition.specs.Extrapolation.{extrapolate, from_system, due, tried}
-use Rattle.definition.specs.declared.problem.Problem.{Problem}
+use Rattle.extrapolation.specs.declared.step.Step.{Step}
 use Rattle.extrapolation.specs.Inner.Places.{point_with, chosen_by, tried_from, StepReady}
 
 -- all places of the working set written, over zeros
@@ -61,10 +61,9 @@ module _ (T : Task) (y : List Float) (K e : ℕ) (ws : List ℕ) (kept : List Fl
   is-due h r q = rw (eq-eqb (e % suc K) K (rw add-one at h)) q
 
 -- a scratch in which a row was written is as ready
-pub ready_again : {P : Problem} {ws : List ℕ} {w fit l : List Float} (m : List Float) → StepReady P ws w fit l → length m ≡ length l → StepReady P ws w fit m
+pub ready_again : {P : Step} {ws : List ℕ} {w fit l : List Float} (m : List Float) → StepReady P ws w fit l → length m ≡ length l → StepReady P ws w fit m
 ready_again m r h = record {
   sized = record {
-    on = r.sized.on;
     weights = r.sized.weights;
     room = h ∙ r.sized.room;
     few = r.sized.few;

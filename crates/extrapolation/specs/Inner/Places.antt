@@ -1,12 +1,12 @@
 -- Where in the scratch the extrapolation finds its numbers, and what its function asks for.
-use Rattle.std.specs.Prelude.{◌≡◌, List, ℕ, suc, ◌+◌, ◌*◌, ◌≤◌, ◌<◌, true, length, get_or, take, drop, Float}
+use Rattle.std.specs.Prelude.{◌≡◌, List, ℕ, suc, ◌+◌, ◌*◌, ◌≤◌, ◌<◌, length, get_or, take, drop, Float}
 use Rattle.std.specs.Float.Ieee.{lt}
 use Rattle.doubles.specs.Num.{pick, ◌and◌}
 use Rattle.penalties.specs.declared.separable.Penalty.{Penalty}
 use Rattle.designs.specs.declared.Shape.{Shape}
-use Rattle.definition.specs.Epoch.{Task, Point}
+use Rattle.definition.specs.Epoch.{Task, task, Point}
 use Rattle.definition.specs.Extrapolation.{Tried, kept_now, keeps, objective_of, all_finite, chosen, candidate_of}
-use Rattle.definition.specs.declared.problem.Problem.{Problem}
+use Rattle.extrapolation.specs.declared.step.Step.{Step}
 
 -- what is kept: K+1 rows of p places behind the violations
 unfoldable pub kept_in : Shape → ℕ → List Float → List Float
@@ -39,22 +39,25 @@ chosen_by penalty y before new old =
 unfoldable pub tried_from : Task → List Float → ℕ → List ℕ → List Float → List Float → Point → Tried
 tried_from T y K ws kept z s = chosen T y (candidate_of T K ws kept z) s
 
--- where the parts of a problem's scratch begin
-abbrev pub Laid : Problem → ℕ → ℕ → ℕ → ℕ → ℕ → Type 0
+-- the extrapolation never looks at the prepared numbers: what it promises holds for any
+abbrev pub task_with : Step → List Float → Task
+task_with P prepared = let x = P.x.matrix in task x.shape x.starts.now x.rows.now x.values.now P.penalty prepared
+
+-- where the parts of its scratch begin
+abbrev pub Laid : Step → ℕ → ℕ → ℕ → ℕ → ℕ → Type 0
 Laid P kept until old fit end =
     let s = P.x.matrix.shape in
-    let K = P.settings.depth in
+    let K = P.depth in
     (kept ≡ s.p) × (until ≡ kept + suc K * s.p) × (old ≡ (2 * K + 2) * s.p) × (fit ≡ old + s.p) × (end ≡ fit + s.n)
 
--- a problem with extrapolation on, a working set of its features, and buffers of its room
-pub record Sized (P : Problem) (ws : List ℕ) (w scratch : List Float) : Type 0 where
-  pub on : P.settings.extrapolate ≡ true
+-- a working set of its features, and buffers of its room
+pub record Sized (P : Step) (ws : List ℕ) (w scratch : List Float) : Type 0 where
   pub weights : length w ≡ P.x.matrix.shape.p
-  pub room : length scratch ≡ (2 * P.settings.depth + 3) * P.x.matrix.shape.p + P.x.matrix.shape.n
+  pub room : length scratch ≡ (2 * P.depth + 3) * P.x.matrix.shape.p + P.x.matrix.shape.n
   pub few : length ws ≤ P.x.matrix.shape.p
   pub below : (k : ℕ) → k < length ws → get_or ws k 0 < P.x.matrix.shape.p
 
 -- and a fit with them
-pub record StepReady (P : Problem) (ws : List ℕ) (w fit scratch : List Float) : Type 0 where
+pub record StepReady (P : Step) (ws : List ℕ) (w fit scratch : List Float) : Type 0 where
   pub sized : Sized P ws w scratch
   pub fits : length fit ≡ P.x.matrix.shape.n

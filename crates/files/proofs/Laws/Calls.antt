@@ -1,20 +1,23 @@
 -- The reader's answer and the lent places, from what its passes leave. Assumes nothing.
-use mathlib.Core.Path.{◌≡◌, refl, sym, ◌∙◌}
-use mathlib.Core.Bool.{Bool, true, false}
+use mathlib.Core.Path.{◌≡◌, refl, ◌∙◌}
+use mathlib.Core.Bool.{true, false}
 use Prim.Native.Nat.{ℕ, ◌≤◌, ◌<◌}
 use native.Mathlib.Omega.{arith}
 use mathlib.Core.List.{List}
+use lib.Dec.{eqb}
 use lib.ListN.{length}
 use lib.Ieee.{Float}
-use borrow.Author.Tests.{leb-true, ltb-true, le-leb, lt-leb}
+use borrow.Author.Tests.{leb-true, le-leb, lt-leb, lt-ltb, eq-eqb, ne_eqb}
+use Rattle.doubles.specs.Num.{◌and◌}
 use Rattle.doubles.specs.Buffer.{put}
 use Rattle.doubles.proofs.Laws.Choice.{and_both}
 use Rattle.doubles.specs.Answer.{Outcome, refused, answered}
 use Rattle.designs.specs.declared.Shape.{Shape}
 use Rattle.definition.specs.declared.Settings.{Settings}
-use Rattle.files.specs.Problem.{read_all, header_shape, header_settings, good_header}
+use Rattle.files.specs.Problem.{whole, read_all, header_shape, header_settings, good_header}
 use Rattle.files.specs.Call.{problem, read_whole, parsed, Places, places, places_suffice, read_problem, sizes_of, read_call, read_left}
-use Rattle.files.specs.Inner.Places.{Header, Counted, Suffice, read_whole_at}
+use Rattle.files.specs.Inner.Places.{Headed, Counted, Suffice}
+use Rattle.files.proofs.Laws.Walk.{not-begun}
 use Rattle.files.specs.declared.Cursor.{Cursor}
 use Rattle.files.specs.declared.Sizes.{Sizes}
 
@@ -42,51 +45,52 @@ module _ (f : List ℕ) (b : Places) where
   unfolding read_problem parsed
   too_long h o e = left-refused 9 49152 (rw (lt-leb (length f) 49152 h)) o b e refl
 
-  module _ (l : length f ≤ 49152) (c : Cursor) (C : Counted f c (read_all f)) (u : Bool) (eu : u ≡ read_whole_at f c.at) where
-    here : u ≡ read_whole f (read_all f)
-    unfolding read_whole
-    here = eu ∙ rw C.at
+  module _ (l : length f ≤ 49152) where
+    -- a first field that is no header is where reading stops
+    pub no_header : (whole f 0 and good_header f) ≡ false → (o : Outcome Sizes) → o ≡ refused 9 0 → Left o b
+    unfolding read_problem parsed read_whole ◌and◌
+    no_header e o eo = left-refused 9 0 (rw (le-leb (length f) 49152 l, not-begun f e)) o b eo refl
 
-    pub not-ended : u ≡ false → (o : Outcome Sizes) (b' : Places) → o ≡ refused 9 c.at → b' ≡ b → Left o b'
-    unfolding read_problem parsed
-    not-ended h o b' eo eb = left-refused 9 (read_all f).at (rw (le-leb (length f) 49152 l, ← here, h)) o b' (eo ∙ rw C.at) eb
+    module _ (c : Cursor) (C : Counted f c (read_all f)) where
+      begun : read_whole f (read_all f) ≡ eqb c.at (length f)
+      unfolding read_whole ◌and◌
+      begun = rw (← C.at, lt-ltb 0 c.at C.behind)
 
-    module _ (h : u ≡ true) where
-      pub some_read : Header f
-      some_read = C.headed (λ z. zero (ltb-true 0 c.at (and_both _ _ (sym eu ∙ h)).0) z)
-        where
-          zero : {n : ℕ} → 0 < n → n ≡ 0 → ⊥
-          zero p q = omega arith
+      pub not-ended : (c.at ≡ length f → ⊥) → (o : Outcome Sizes) (b' : Places) → o ≡ refused 9 c.at → b' ≡ b → Left o b'
+      unfolding read_problem parsed
+      not-ended h o b' eo eb =
+          left-refused 9 (read_all f).at (rw (le-leb (length f) 49152 l, begun, ne_eqb _ _ h)) o b' (eo ∙ rw C.at) eb
 
-      whole-problem : parsed f ≡ answered (problem f (read_all f))
-      unfolding parsed
-      whole-problem = rw (le-leb (length f) 49152 l, ← here, h)
+      module _ (h : c.at ≡ length f) where
+        whole-problem : parsed f ≡ answered (problem f (read_all f))
+        unfolding parsed
+        whole-problem = rw (le-leb (length f) 49152 l, begun, eq-eqb _ _ h)
 
-      pub no_room : places_suffice b ≡ false → (o : Outcome Sizes) (b' : Places) → o ≡ refused 3 0 → b' ≡ b → Left o b'
-      unfolding read_problem
-      no_room n o b' eo eb = left-refused 3 0 (rw (whole-problem, n)) o b' eo eb
-
-      module _ (m : places_suffice b ≡ true) where
-        fine : read_problem f b ≡ answered (problem f (read_all f))
+        pub no_room : places_suffice b ≡ false → (o : Outcome Sizes) (b' : Places) → o ≡ refused 3 0 → b' ≡ b → Left o b'
         unfolding read_problem
-        fine = rw (whole-problem, m)
+        no_room n o b' eo eb = left-refused 3 0 (rw (whole-problem, n)) o b' eo eb
 
-        pub read_well : (o : Outcome Sizes) (b' : Places) → o ≡ answered (sizes_of (problem f (read_all f)))
-            → let all = read_all f in
-            b' ≡ places (put b.targets 0 all.targets) (put b.values 0 all.values) (put b.starts 0 all.starts) (put b.rows 0 all.rows)
-            → Left o b'
-        unfolding read_call read_left
-        read_well o b' eo eb = rw fine (eo, eb)
+        module _ (m : places_suffice b ≡ true) where
+          fine : read_problem f b ≡ answered (problem f (read_all f))
+          unfolding read_problem
+          fine = rw (whole-problem, m)
+
+          pub read_well : (o : Outcome Sizes) (b' : Places) → o ≡ answered (sizes_of (problem f (read_all f)))
+              → let all = read_all f in
+              b' ≡ places (put b.targets 0 all.targets) (put b.values 0 all.values) (put b.starts 0 all.starts) (put b.rows 0 all.rows)
+              → Left o b'
+          unfolding read_call read_left
+          read_well o b' eo eb = rw fine (eo, eb)
 
 -- the sizes, as the second pass counted them
 module _ (f : List ℕ) (d : Cursor) (C : Counted f d (read_all f)) where
   pub sizes-read : (a : Shape) (e : Settings) → a ≡ header_shape f → e ≡ header_settings f
-      → answered (record { shape = a; settings = e; targets = d.targets; values = d.values; starts = d.starts; rows = d.rows })
+      → answered (record { shape = a; settings = e; counts = d.counts })
       ≡ answered (sizes_of (problem f (read_all f)))
   sizes-read a e ea ee = rw (ea, ee, C.targets, C.values, C.starts, C.rows)
 
-  pub sizes-inside : length f ≤ 49152 → Header f → (a : Shape) → a ≡ header_shape f
-      → (d.targets ≤ 6144) × (d.values ≤ 4096) × (d.starts ≤ 12288) × (d.rows ≤ 12288) × (a.n ≤ 256) × (a.p ≤ 32)
+  pub sizes-inside : length f ≤ 49152 → Headed f → (a : Shape) → a ≡ header_shape f
+      → (d.counts.targets ≤ 6144) × (d.counts.values ≤ 4096) × (d.counts.starts ≤ 12288) × (d.counts.rows ≤ 12288) × (a.n ≤ 256) × (a.p ≤ 32)
   unfolding header_shape good_header
   sizes-inside l H a e =
       let w = C.within in

@@ -14,10 +14,10 @@ use Rattle.doubles.specs.Buffer.{put}
 use Rattle.doubles.proofs.Laws.Choice.{and_both}
 use Rattle.doubles.proofs.Laws.Steps.{length-tab}
 use Rattle.doubles.proofs.Laws.Buffer.{length-put, put-behind}
-use Rattle.files.specs.Bytes.{u32, f64, doubles, indices}
+use Rattle.files.specs.Bytes.{byte, u32, f64, doubles, indices}
 use Rattle.files.specs.Problem.{Read, nothing_read, tag_at, length_at, whole, stored, good_header, good_field, good_at, good, joined, next_read, read_on}
 use Rattle.files.specs.Problem.{read_all}
-use Rattle.files.specs.Inner.Places.{Header, Counted, grown_by, advanced, Space, Suffice, stored_in, indexed_in, kept_if}
+use Rattle.files.specs.Inner.Places.{Headed, Counted, grown_by, advanced, Space, Suffice, stored_in, indexed_in, kept_if}
 use Rattle.files.specs.declared.Cursor.{Cursor}
 use Rattle.files.proofs.Laws.Fields.{head_inside, body_inside, header-long}
 
@@ -33,13 +33,6 @@ module _ (f : List ℕ) (s : Read) (h : good f s ≡ true) where
 
   good-first : s.at ≡ 0 → good_header f ≡ true
   good-first e = rw (eq-eqb s.at 0 e) at choice
-
-  first-long : s.at ≡ 0 → 51 ≤ length f
-  unfolding good_header
-  first-long e =
-      let a = and_both _ _ (good-first e) in
-      let b = and_both _ _ a.1 in
-      header-long f _ (rw e at good-whole) refl (eqb-true _ 48 b.0)
 
   first-tag : s.at ≡ 0 → tag_at f s.at ≡ 1
   unfolding good_header
@@ -87,6 +80,11 @@ module _ (f : List ℕ) where
   unfolding read_on
   one_more s = same-turns (length f) (suc (length f)) s (omega arith) (omega arith)
 
+-- a file that begins with no header is not read
+pub not-begun : (f : List ℕ) → (whole f 0 and good_header f) ≡ false → read_all f ≡ nothing_read
+unfolding read_all good_at
+not-begun f e = one_more f nothing_read ∙ rw e
+
 -- ---- what is counted
 grown-length : {A : Type 0} (b : Bool) (n m : ℕ) (old new : List A) → n ≡ length old → length new ≡ m → grown_by n b m ≡ length (pick b (old ++ new) old)
 grown-length true n m old new e h = rw (e, length-append old new, h)
@@ -101,7 +99,7 @@ fours true n m a h = omega arith
 fours false n m a h = omega arith
 
 module _ (f : List ℕ) (c : Cursor) (s : Read) (C : Counted f c s) where
-  pub good-by : (b : Bool) → b ≡ good_at f c.at c.tag c.values → b ≡ good f s
+  pub good-by : (b : Bool) → b ≡ good_at f c.at c.tag c.counts.values → b ≡ good f s
   good-by b e = e ∙ rw (C.at, C.tag, C.values)
 
   module _ (g : good f s ≡ true) where
@@ -116,25 +114,21 @@ module _ (f : List ℕ) (c : Cursor) (s : Read) (C : Counted f c s) where
         record {
           at = rw C.at;
           tag = rw C.at;
-          targets = rw C.at (grown-length (eqb t 2) c.targets (m / 8) s.targets (doubles f (s.at + 3) (m / 8)) C.targets (length-tab _ (m / 8)));
-          values = rw C.at (grown-length (eqb t 3) c.values (m / 8) s.values (doubles f (s.at + 3) (m / 8)) C.values (length-tab _ (m / 8)));
-          starts = rw C.at (grown-length (eqb t 4) c.starts (m / 4) s.starts (indices f (s.at + 3) (m / 4)) C.starts (length-tab _ (m / 4)));
-          rows = rw C.at (grown-length (eqb t 5) c.rows (m / 4) s.rows (indices f (s.at + 3) (m / 4)) C.rows (length-tab _ (m / 4)));
+          targets = rw C.at (grown-length (eqb t 2) c.counts.targets (m / 8) s.targets (doubles f (s.at + 3) (m / 8)) C.targets (length-tab _ (m / 8)));
+          values = rw C.at (grown-length (eqb t 3) c.counts.values (m / 8) s.values (doubles f (s.at + 3) (m / 8)) C.values (length-tab _ (m / 8)));
+          starts = rw C.at (grown-length (eqb t 4) c.counts.starts (m / 4) s.starts (indices f (s.at + 3) (m / 4)) C.starts (length-tab _ (m / 4)));
+          rows = rw C.at (grown-length (eqb t 5) c.counts.rows (m / 4) s.rows (indices f (s.at + 3) (m / 4)) C.rows (length-tab _ (m / 4)));
           within = body_inside f c.at whole_here;
-          few-targets = eights (eqb (tag_at f c.at) 2) c.targets (length_at f c.at) c.at C.few-targets;
+          few-targets = eights (eqb (tag_at f c.at) 2) c.counts.targets (length_at f c.at) c.at C.few-targets;
           few-values = stored-few (eqb (tag_at f c.at) 3) refl;
-          few-starts = fours (eqb (tag_at f c.at) 4) c.starts (length_at f c.at) c.at C.few-starts;
-          few-rows = fours (eqb (tag_at f c.at) 5) c.rows (length_at f c.at) c.at C.few-rows;
-          headed = λ n. long (eqb c.at 0) refl;
+          few-starts = fours (eqb (tag_at f c.at) 4) c.counts.starts (length_at f c.at) c.at C.few-starts;
+          few-rows = fours (eqb (tag_at f c.at) 5) c.counts.rows (length_at f c.at) c.at C.few-rows;
+          behind = omega arith;
         }
       where
-        stored-few : (b : Bool) → eqb (tag_at f c.at) 3 ≡ b → grown_by c.values b (length_at f c.at / 8) ≤ 4096
+        stored-few : (b : Bool) → eqb (tag_at f c.at) 3 ≡ b → grown_by c.counts.values b (length_at f c.at / 8) ≤ 4096
         stored-few true q = rw (C.at, C.values) (values-fit f s g (rw (← C.at) (eqb-true _ 3 q)))
         stored-few false q = C.few-values
-
-        long : (b : Bool) → eqb c.at 0 ≡ b → Header f
-        long true q = let z : s.at ≡ 0 = sym C.at ∙ eqb-true c.at 0 q in record { long = first-long f s g z; good = good-first f s g z }
-        long false q = C.headed (eqb-false c.at 0 q)
 
     pub enough_space : (a b d e : ℕ) → length f ≤ 49152 → Suffice a b d e → Space f c a b d e
     enough_space a b d e l R =
@@ -182,30 +176,55 @@ pub record Walked (f : List ℕ) (keep : Bool) (t₀ v₀ : List Float) (s₀ r�
   pub starts : s ≡ kept_if keep s₀ so_far.starts
   pub rows : r ≡ kept_if keep r₀ so_far.rows
 
-module _ (f : List ℕ) (keep : Bool) (t₀ v₀ : List Float) (s₀ r₀ : List ℕ) (l : length f ≤ 49152)
-    (room : keep ≡ true → Suffice (length t₀) (length v₀) (length s₀) (length r₀)) where
-  counts-none : Counted f (record { at = 0; tag = 0; targets = 0; values = 0; starts = 0; rows = 0 }) nothing_read
-  counts-none = record {
+-- ---- behind the header
+abbrev pub begin : Read
+begin = record { at = 51; tag = 1; targets = []; values = []; starts = []; rows = [] }
+
+module _ (f : List ℕ) (H : Headed f) where
+  tag-one : byte f 0 ≡ 1
+  unfolding good_header
+  tag-one = eqb-true _ 1 (and_both _ _ H.good).0
+
+  pub header-length : length_at f 0 ≡ 48
+  unfolding good_header
+  header-length = eqb-true _ 48 (and_both _ _ (and_both _ _ H.good).1).0
+
+  pub header_long : 51 ≤ length f
+  header_long = header-long f _ H.whole_first refl header-length
+
+  first-good : good f nothing_read ≡ true
+  unfolding good_at ◌and◌
+  first-good = rw (H.whole_first, H.good)
+
+  header-next : next_read f nothing_read ≡ begin
+  unfolding next_read
+  header-next = rw (tag-one, header-length)
+
+  header_counted : Counted f (record { at = 51; tag = 1; counts = record { targets = 0; values = 0; starts = 0; rows = 0 } }) begin
+  header_counted = record {
     at = refl;
     tag = refl;
     targets = refl;
     values = refl;
     starts = refl;
     rows = refl;
-    within = omega arith;
+    within = header_long;
     few-targets = omega arith;
     few-values = omega arith;
     few-starts = omega arith;
     few-rows = omega arith;
-    headed = λ n. absurd (n refl);
+    behind = omega arith;
   }
 
-  pub walked_none : Walked f keep t₀ v₀ s₀ r₀ t₀ v₀ s₀ r₀ (record { at = 0; tag = 0; targets = 0; values = 0; starts = 0; rows = 0 })
+module _ (f : List ℕ) (keep : Bool) (t₀ v₀ : List Float) (s₀ r₀ : List ℕ) (l : length f ≤ 49152)
+    (room : keep ≡ true → Suffice (length t₀) (length v₀) (length s₀) (length r₀)) where
+  pub walked_none : Headed f → Walked f keep t₀ v₀ s₀ r₀ t₀ v₀ s₀ r₀
+      (record { at = 51; tag = 1; counts = record { targets = 0; values = 0; starts = 0; rows = 0 } })
   unfolding read_all
-  walked_none = record {
-    so_far = nothing_read;
-    rest = refl;
-    counts = counts-none;
+  walked_none H = record {
+    so_far = begin;
+    rest = one_more f nothing_read ∙ rw (first-good f H, header-next f H);
+    counts = header_counted f H;
     targets = put-nothing keep t₀;
     values = put-nothing keep v₀;
     starts = put-nothing keep s₀;
@@ -219,12 +238,12 @@ module _ (f : List ℕ) (keep : Bool) (t₀ v₀ : List Float) (s₀ r₀ : List
     fewer : (n : ℕ) → 4 * n ≤ c.at → n ≤ 12288
     fewer n h = let w = W.counts.within in omega arith
 
-    pub counts-few : (c.targets ≤ 6144) × (c.values ≤ 4096) × (c.starts ≤ 12288) × (c.rows ≤ 12288)
+    pub counts-few : (c.counts.targets ≤ 6144) × (c.counts.values ≤ 4096) × (c.counts.starts ≤ 12288) × (c.counts.rows ≤ 12288)
     counts-few = (
-      few c.targets W.counts.few-targets,
+      few c.counts.targets W.counts.few-targets,
       W.counts.few-values,
-      fewer c.starts W.counts.few-starts,
-      fewer c.rows W.counts.few-rows,
+      fewer c.counts.starts W.counts.few-starts,
+      fewer c.counts.rows W.counts.few-rows,
     )
 
     -- the lent buffers keep their lengths
@@ -239,10 +258,10 @@ module _ (f : List ℕ) (keep : Bool) (t₀ v₀ : List Float) (s₀ r₀ : List
         )
 
     -- what the test of the next field says of what was read so far
-    goes-on : (more : Bool) → more ≡ good_at f c.at c.tag c.values → more ≡ good f W.so_far
+    goes-on : (more : Bool) → more ≡ good_at f c.at c.tag c.counts.values → more ≡ good f W.so_far
     goes-on more e = good-by f c W.so_far W.counts more e
 
-    module _ {more : Bool} (e : more ≡ good_at f c.at c.tag c.values) (h : more ≡ true) where
+    module _ {more : Bool} (e : more ≡ good_at f c.at c.tag c.counts.values) (h : more ≡ true) where
       here_good : good f W.so_far ≡ true
       here_good = sym (goes-on more e) ∙ h
 
@@ -269,8 +288,8 @@ module _ (f : List ℕ) (keep : Bool) (t₀ v₀ : List Float) (s₀ r₀ : List
       gains u b₀ xs ys b n eb en h = kept_more keep (eqb (tag_at f c.at) u) b₀ xs ys b n eb en h
 
       pub walked_more : (t' v' : List Float) (s' r' : List ℕ) (d : Cursor)
-          → t' ≡ stored_in keep f c.at 2 t c.targets → v' ≡ stored_in keep f c.at 3 v c.values
-          → s' ≡ indexed_in keep f c.at 4 s c.starts → r' ≡ indexed_in keep f c.at 5 r c.rows
+          → t' ≡ stored_in keep f c.at 2 t c.counts.targets → v' ≡ stored_in keep f c.at 3 v c.counts.values
+          → s' ≡ indexed_in keep f c.at 4 s c.counts.starts → r' ≡ indexed_in keep f c.at 5 r c.counts.rows
           → d ≡ advanced f c
           → Walked f keep t₀ v₀ s₀ r₀ t' v' s' r' d
       unfolding next_read
@@ -285,28 +304,28 @@ module _ (f : List ℕ) (keep : Bool) (t₀ v₀ : List Float) (s₀ r₀ : List
             counts = n;
             targets =
                 et
-                ∙ gains 2 t₀ x.targets (doubles f (c.at + 3) (m / 8)) t c.targets W.targets C.targets
+                ∙ gains 2 t₀ x.targets (doubles f (c.at + 3) (m / 8)) t c.counts.targets W.targets C.targets
                 (λ k q. rw (length-tab (λ i. f64 f (c.at + 3 + 8 * i)) (m / 8)) ((here_space k).targets (eqb-true _ 2 q)))
                 ∙ rw C.at;
             values =
                 ev
-                ∙ gains 3 v₀ x.values (doubles f (c.at + 3) (m / 8)) v c.values W.values C.values
+                ∙ gains 3 v₀ x.values (doubles f (c.at + 3) (m / 8)) v c.counts.values W.values C.values
                 (λ k q. rw (length-tab (λ i. f64 f (c.at + 3 + 8 * i)) (m / 8)) ((here_space k).values (eqb-true _ 3 q)))
                 ∙ rw C.at;
             starts =
                 es
-                ∙ gains 4 s₀ x.starts (indices f (c.at + 3) (m / 4)) s c.starts W.starts C.starts
+                ∙ gains 4 s₀ x.starts (indices f (c.at + 3) (m / 4)) s c.counts.starts W.starts C.starts
                 (λ k q. rw (length-tab (λ i. u32 f (c.at + 3 + 4 * i)) (m / 4)) ((here_space k).starts (eqb-true _ 4 q)))
                 ∙ rw C.at;
             rows =
                 er
-                ∙ gains 5 r₀ x.rows (indices f (c.at + 3) (m / 4)) r c.rows W.rows C.rows
+                ∙ gains 5 r₀ x.rows (indices f (c.at + 3) (m / 4)) r c.counts.rows W.rows C.rows
                 (λ k q. rw (length-tab (λ i. u32 f (c.at + 3 + 4 * i)) (m / 4)) ((here_space k).rows (eqb-true _ 5 q)))
                 ∙ rw C.at;
           }
 
     -- the file is read
-    pub walked_all : {more : Bool} → more ≡ good_at f c.at c.tag c.values → more ≡ false
+    pub walked_all : {more : Bool} → more ≡ good_at f c.at c.tag c.counts.values → more ≡ false
         → Counted f c (read_all f) × (t ≡ kept_if keep t₀ (read_all f).targets) × (v ≡ kept_if keep v₀ (read_all f).values)
         × (s ≡ kept_if keep s₀ (read_all f).starts) × (r ≡ kept_if keep r₀ (read_all f).rows)
     walked_all {more} q h =

@@ -1,5 +1,5 @@
 -- `is_field`: the tests in their turn. Assumes nothing.
-use mathlib.Core.Path.{◌≡◌}
+use mathlib.Core.Path.{◌≡◌, ◌∙◌}
 use mathlib.Core.Bool.{Bool, true, false}
 use mathlib.Core.Logic.{◌⊎◌, inl, inr}
 use mathlib.Core.List.{List}
@@ -8,7 +8,7 @@ use native.Mathlib.Omega.{arith}
 use borrow.Author.Tests.{eq-eqb, ne_eqb, le-leb, lt-leb}
 use Rattle.doubles.specs.Num.{◌and◌}
 use Rattle.files.specs.Problem.{good_field, known_tag, tag_at, length_at, element_size}
-use Rattle.files.proofs.Laws.Fields.{head_inside}
+use Rattle.files.proofs.Laws.Fields.{head_inside, known_as}
 use Rattle.files.proofs.is_field.Goals as goal
 
 -- one of the first three tests fails
@@ -27,15 +27,17 @@ pub overflow_add-c : goal.overflow_add-c
 overflow_add-c c = let h = head_inside _ _ c.requires.0 in omega arith
 
 pub u16_at-many-requires : goal.u16_at-many-requires
-u16_at-many-requires c = let h = head_inside _ _ c.requires.0 in (omega arith, c.requires.2)
+u16_at-many-requires c = let h = head_inside _ _ c.requires.0 in (omega arith, c.requires.1)
 
 pub returns-then-no_rest : goal.returns-then-no_rest
 unfolding good_field ◌and◌
 returns-then-no_rest c =
     let h = c.if-no_rest.true in
-    rw (← c.is_known.ensures, h.0, le-leb _ _ h.1, ← c.u16_at-many.ensures.0, ← c.size_of.ensures, eq-eqb _ _ h.2) c.is_stored.ensures
+    let known = c.is_known.ensures ∙ known_as _ _ _ c.requires.3 in
+    rw (← known, h.0, le-leb _ _ h.1, ← c.u16_at-many.ensures.0, ← c.size_of.ensures, eq-eqb _ _ h.2) c.is_stored.ensures
 
 pub returns-else-no_rest : goal.returns-else-no_rest
 returns-else-no_rest c =
-    let h = failed _ c.args.c.at c.args.c.tag c.args.c.values c.is_known.ensures c.u16_at-many.ensures.0 c.size_of.ensures c.if-no_rest.either in
+    let known = c.is_known.ensures ∙ known_as _ _ _ c.requires.3 in
+    let h = failed _ c.args.c.at c.args.c.tag c.args.c.counts.values known c.u16_at-many.ensures.0 c.size_of.ensures c.if-no_rest.either in
     cc

@@ -45,7 +45,7 @@ pub construct_ws-many-requires : goal.construct_ws-many-requires
 construct_ws-many-requires c =
     let ready = c.requires.0 in (
       length-take-le _ _ (room_for ready) ∙ sym ready.weights,
-      le_trans (le_of_eq ready.weights) c.args.problem.now.x.narrow,
+      le_trans (le_of_eq ready.weights) c.args.problem.now.narrow,
       few (goal.at.construct_ws-many-requires c).After-start_size-start,
       c.requires.1 ∙ sym ready.weights,
       numbers-known (task_in c.args.problem.now) _ _ _ c.requires.3 c.requires.4 ready.weights,

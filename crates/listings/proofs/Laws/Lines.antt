@@ -11,6 +11,7 @@ use Rattle.doubles.specs.Num.{at}
 use Rattle.doubles.specs.Steps.{steps}
 use Rattle.doubles.proofs.Laws.Buffer.{put-none}
 use Rattle.doubles.proofs.Laws.Steps.{steps-more}
+use Rattle.definition.specs.Status.{status_number}
 use Rattle.definition.specs.declared.Report.{Report}
 use Rattle.listings.specs.Listing.{◌and_then◌, codes, digit_count, decimal, hex16, bits_of, newline, labelled}
 use Rattle.listings.specs.Listing.{count_line, bits_line, entry_line, entry_lines, report_lines, listing, refused_line}
@@ -99,12 +100,12 @@ lines_within name xs m n l h =
 report-length : (r : Report) → length (report_lines r) ≤ 151
 unfolding report_lines
 report-length r =
-    let s = count_line (codes "status ") r.status in
+    let s = count_line (codes "status ") (status_number r.status) in
     let v = bits_line (codes "violation ") r.violation in
     let i = count_line (codes "iterations ") r.iterations in
     let e = count_line (codes "epochs ") r.epochs in
     let x = count_line (codes "extrapolations ") r.extrapolations in
-    let s' : length s ≤ 28 = unfold codes in length-count (codes "status ") r.status in
+    let s' : length s ≤ 28 = unfold codes in length-count (codes "status ") (status_number r.status) in
     let v' : length v ≡ 27 = unfold codes in length-bits (codes "violation ") r.violation in
     let i' : length i ≤ 32 = unfold codes in length-count (codes "iterations ") r.iterations in
     let e' : length e ≤ 28 = unfold codes in length-count (codes "epochs ") r.epochs in

@@ -7,7 +7,7 @@ use Rattle.passes.proofs.alpha_max.Goals as goal
 pub returns : goal.returns
 returns c = (
   largest-dots _ _ _ (samples _ _ _ _ _ _) (features _ _ _ _ _ _) _ _ _ _ (search rules)
-      c.requires.0
+      c.requires.1
       c.all_dots.ensures c.largest_abs.ensures,
   c.all_dots.ensures,
 )

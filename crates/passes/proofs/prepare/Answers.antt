@@ -7,4 +7,4 @@ pub returns : goal.returns
 returns c =
     halves _ _ _ (samples _ _ _ _ _ _) (features _ _ _ _ _ _) _ c.constants.new.buf
     c.all_dots.new.buf c.args.buf.now c.constants.ensures
-    c.all_dots.ensures c.requires.0
+    c.all_dots.ensures c.requires.1

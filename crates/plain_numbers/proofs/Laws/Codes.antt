@@ -10,65 +10,53 @@ use lib.Dec.{leb}
 use lib.Ieee.{Float, nan, lt, le, eq, of_bits}
 use Rattle.doubles.specs.Num.{◌and◌}
 use Rattle.doubles.specs.Answer.{Outcome, refused, Fault, none, unless_at, ◌then◌}
-use Rattle.doubles.specs.declared.Refusal.{Refusal}
 use Rattle.penalties.specs.Penalty.{alpha_legal, ratio_legal, second_legal, penalty_fault}
 use Rattle.penalties.proofs.Numbers.{prox_of-nan}
-use Rattle.designs.specs.Given.{given}
-use Rattle.designs.specs.declared.Shape.{Shape}
-use Rattle.definition.specs.Call.{Lent, solve_call, solve_left, fit_of, start_legal, depth_legal, settings_fault}
-use Rattle.definition.specs.Walk.{walk_of, walk_call, walk_left, walk_numbers}
-use Rattle.definition.specs.declared.Fit.{Fit}
-use Rattle.definition.specs.declared.Fit.TheVariants as Fit
+use Rattle.designs.specs.Design.{dense_shape, csc_shape, nothing}
+use Rattle.designs.specs.Given.{Given, given, handed}
+use Rattle.designs.specs.declared.Matrix.{Matrix}
+use Rattle.std.proofs.Common.{Bor}
+use Rattle.definition.specs.Call.{Lent, solve_call, solve_left, start_legal, depth_legal, settings_fault}
+use Rattle.definition.specs.Walk.{walk_call, walk_left, walk_numbers}
 use Rattle.definition.specs.declared.Report.{Report}
 use Rattle.definition.specs.declared.Settings.{Settings}
 use Rattle.definition.specs.declared.Usable.{Usable}
-use Rattle.definition.specs.declared.Walk.{Walk}
-use Rattle.definition.specs.declared.Walk.TheVariants as Walk
-use Rattle.plain_numbers.specs.Codes.{number_in, place_in, answer_in, no_penalty, coded_penalty, coded_prox, coded_settings}
-use Rattle.plain_numbers.specs.Codes.{reply, solve_reply, usable, told, walk_reply}
-
--- ---- the arms of a match on the answer
-pub refused-told : (d : Fit) (r : Refusal) (old : Report) → d ≡ Fit.Refused r
-    → (r.number ≡ number_in (fit_of d)) × (r.place ≡ place_in (fit_of d)) × (old ≡ answer_in (fit_of d) old)
-refused-told d r old h = rw h (refl, refl, refl)
-
-pub done-told : (d : Fit) (r old : Report) → d ≡ Fit.Done r → (0 ≡ number_in (fit_of d)) × (0 ≡ place_in (fit_of d)) × (r ≡ answer_in (fit_of d) old)
-done-told d r old h = rw h (refl, refl, refl)
-
--- of a walk, whose report is told as a fit's is
-pub walk-refused-told : (d : Walk) (r : Refusal) (old : Usable) {number place : ℕ} {new : Report} → d ≡ Walk.Refused r
-    → (number ≡ number_in (fit_of (Fit.Refused r))) × (place ≡ place_in (fit_of (Fit.Refused r))) × (new ≡ answer_in (fit_of (Fit.Refused r)) old.report)
-    → (number ≡ number_in (walk_of d)) × (place ≡ place_in (walk_of d)) × (usable old.position new ≡ answer_in (walk_of d) old)
-walk-refused-told d r old h told = rw (h, told.2) (told.0, told.1, refl)
-
-pub walk-found-told : (d : Walk) (u old : Usable) {number place : ℕ} {new : Report} → d ≡ Walk.Found u
-    → (number ≡ number_in (fit_of (Fit.Done u.report))) × (place ≡ place_in (fit_of (Fit.Done u.report)))
-    × (new ≡ answer_in (fit_of (Fit.Done u.report)) old.report)
-    → (number ≡ number_in (walk_of d)) × (place ≡ place_in (walk_of d)) × (usable u.position new ≡ answer_in (walk_of d) old)
-walk-found-told d u old h told = rw (h, told.2) (told.0, told.1, refl)
+use Rattle.plain_numbers.specs.Codes.{number_in, place_in, ReportNumbers, report_in, UsableNumbers, usable_in}
+use Rattle.plain_numbers.specs.Codes.{no_penalty, coded_penalty, coded_prox, coded_settings, reply, solve_reply, told, walk_reply}
 
 -- ---- a fault in numbers is that of the equal one
 pub same-told : {a f : Fault} {number place : ℕ} → a ≡ f → (number ≡ number_in a) × (place ≡ place_in a)
     → (number ≡ number_in f) × (place ≡ place_in f)
 same-told e h = rw (← e) h
 
--- ---- a call with a shape s and settings S that are those promised: its answer told, and what it left, are the reply
-module _ {s s' : Shape} (starts rows : List ℕ) (values y handed : List Float) {S S' : Settings} (b : Lent) (hs : s ≡ s') (hS : S ≡ S') where
-  pub called : {o : Outcome Report} {l : Lent} {number place : ℕ} {new : Report} (old : Report)
-      → (o ≡ solve_call (given s starts rows values y) S handed b) × (l ≡ solve_left (given s starts rows values y) S handed b)
-      → (number ≡ number_in o) × (place ≡ place_in o) × (new ≡ answer_in o old)
-      → reply number place new l ≡ solve_reply (given s' starts rows values y) S' handed b old
+-- ---- a design made of its parts, and its targets, as they are given
+pub dense_given : (x : Matrix) {n p : ℕ} {v : Bor (List Float)} (y : List Float)
+    → (x.shape ≡ dense_shape n p) × (x.starts.now ≡ nothing) × (x.rows.now ≡ nothing) × (x.values ≡ v)
+    → handed x y ≡ given (dense_shape n p) nothing nothing v.now y
+dense_given x y h = rw (h.0, h.1, h.2, h.3)
+
+pub csc_given : (x : Matrix) {n p : ℕ} {s r : Bor (List ℕ)} {v : Bor (List Float)} (y : List Float)
+    → (x.shape ≡ csc_shape n p) × (x.starts ≡ s) × (x.rows ≡ r) × (x.values ≡ v)
+    → handed x y ≡ given (csc_shape n p) s.now r.now v.now y
+csc_given x y h = rw (h.0, h.1, h.2, h.3)
+
+-- ---- a call that is given g with settings S, which are those promised: its answer told, and what it left, are the reply
+module _ {g g' : Given} (prepared : List Float) {S S' : Settings} (b : Lent) (hg : g ≡ g') (hS : S ≡ S') where
+  pub called : {o : Outcome Report} {l : Lent} {number place : ℕ} {new : ReportNumbers} (old : ReportNumbers)
+      → (o ≡ solve_call g S prepared b) × (l ≡ solve_left g S prepared b)
+      → (number ≡ number_in o) × (place ≡ place_in o) × (new ≡ report_in o old)
+      → reply number place new l ≡ solve_reply g' S' prepared b old
   unfolding solve_reply
-  called old done told = rw (← hs, ← hS, ← done.0, ← done.1, told.0, told.1, told.2)
+  called old done told = rw (← hg, ← hS, ← done.0, ← done.1, told.0, told.1, told.2)
 
   -- and a walk
-  pub walked : {o : Outcome Usable} {l : Lent} {numbers : List Float} {number place : ℕ} {new : Usable} (alphas : List Float) (most : ℕ) (old : Usable)
-      → (o ≡ walk_call (given s starts rows values y) S alphas most handed b) × (l ≡ walk_left (given s starts rows values y) S alphas most handed b)
-      × (numbers ≡ walk_numbers (given s starts rows values y) S alphas handed b)
-      → (number ≡ number_in o) × (place ≡ place_in o) × (new ≡ answer_in o old)
-      → told number place new l numbers ≡ walk_reply (given s' starts rows values y) S' alphas most handed b old
+  pub walked : {o : Outcome Usable} {l : Lent} {numbers : List Float} {number place : ℕ} {new : UsableNumbers} (alphas : List Float) (most : ℕ)
+      (old : UsableNumbers)
+      → (o ≡ walk_call g S alphas most prepared b) × (l ≡ walk_left g S alphas most prepared b) × (numbers ≡ walk_numbers g S alphas prepared b)
+      → (number ≡ number_in o) × (place ≡ place_in o) × (new ≡ usable_in o old)
+      → told number place new l numbers ≡ walk_reply g' S' alphas most prepared b old
   unfolding walk_reply
-  walked alphas most old done said = rw (← hs, ← hS, ← done.0, ← done.1, ← done.2, said.0, said.1, said.2)
+  walked alphas most old done said = rw (← hg, ← hS, ← done.0, ← done.1, ← done.2, said.0, said.1, said.2)
 
 -- ---- what follows a chain of tests follows its last
 last_then : (b : Bool) (g : Fault) → unless_at b 2 5 g ≡ (unless_at b 2 5 none then g)

@@ -1,21 +1,27 @@
 -- `penalty_of`: by the code. Assumes nothing.
-use lib.Ieee.{div, of_bits}
-use borrow.Author.Tests.{eq-eqb, ne_eqb}
+use Rattle.std.proofs.Common.{◌≢◌}
+use borrow.Author.Rules.{rules}
+use borrow.Author.Tests.{ne_eqb}
+use lib.Ieee.{of_bits}
 use Rattle.plain_numbers.specs.Codes.{coded_penalty}
 use Rattle.plain_numbers.proofs.penalty_of.Goals as goal
 
-pub returns-then-code-eq0 : goal.returns-then-code-eq0
+pub returns-in-0 : goal.returns-in-0
 unfolding coded_penalty
-returns-then-code-eq0 c = rw (eq-eqb _ _ c.if-code-eq0.true)
+returns-in-0 c = rw c.in-0.is
 
-pub returns-then-code-eq1 : goal.returns-then-code-eq1
+pub returns-in-1 : goal.returns-in-1
 unfolding coded_penalty
-returns-then-code-eq1 c = rw (ne_eqb _ _ c.if-code-eq0.false, eq-eqb _ _ c.if-code-eq1.true)
+returns-in-1 c = rw c.in-1.is
 
-pub returns-then-code-eq2 : goal.returns-then-code-eq2
+pub returns-in-2 : goal.returns-in-2
 unfolding coded_penalty
-returns-then-code-eq2 c = rw (ne_eqb _ _ c.if-code-eq0.false, ne_eqb _ _ c.if-code-eq1.false, eq-eqb _ _ c.if-code-eq2.true)
+returns-in-2 c = rw c.in-2.is
 
-pub returns : goal.returns
-unfolding coded_penalty div of_bits
-returns c = rw (ne_eqb _ _ c.if-code-eq0.false, ne_eqb _ _ c.if-code-eq1.false, ne_eqb _ _ c.if-code-eq2.false)
+pub returns-in_default : goal.returns-in_default
+unfolding coded_penalty of_bits
+returns-in_default c =
+    let a : c.args.code ≢ 0 = search rules in
+    let b : c.args.code ≢ 1 = search rules in
+    let d : c.args.code ≢ 2 = search rules in
+    rw (ne_eqb _ _ a, ne_eqb _ _ b, ne_eqb _ _ d)

@@ -12,10 +12,9 @@ use lib.Ieee.{Float}
 use Rattle.doubles.specs.Num.{pick}
 use Rattle.doubles.specs.Steps.{zeros}
 use Rattle.doubles.specs.Buffer.{put}
-use Rattle.doubles.specs.Answer.{refused, none, unless, verdict_of}
+use Rattle.doubles.specs.Answer.{refused, none, unless, number, outcome_of}
 use Rattle.doubles.specs.declared.Refusal.{Refusal}
-use Rattle.doubles.specs.declared.Verdict.{Verdict}
-use Rattle.doubles.specs.declared.Verdict.TheVariants as Verdict
+use Rattle.std.specs.Prelude.{Result, Ok, Err}
 use Rattle.doubles.proofs.Laws.Verdict.{stop, pass}
 use Rattle.doubles.proofs.Laws.Steps.{length-tab}
 use Rattle.doubles.proofs.Laws.Buffer.{put-put, length-put}
@@ -28,15 +27,15 @@ use Rattle.definition.specs.Preparation.{all_usable, prepared_of, prepare_call, 
 use Rattle.definition.proofs.Laws.Prepared.{prepared-long}
 
 -- v is what the tests found, and m what was left of the lent buffer
-module _ (g : Given) (buf : List Float) (v : Verdict) (m : List Float) (e : verdict_of v ≡ preparation_fault g buf) (em : m ≡ initialized g buf) where
+module _ (g : Given) (buf : List Float) (v : Result (Unit {0}) Refusal) (m : List Float) (e : outcome_of v ≡ preparation_fault g buf) (em : m ≡ initialized g buf) where
   abbrev p : ℕ
   p = g.shape.p
 
-  pub left-refused : (r : Refusal) → v ≡ Verdict.Refused r → (refused r.number r.place ≡ prepare_call g buf) × (m ≡ prepare_left g buf)
+  pub left-refused : (r : Refusal) → v ≡ Err r → (refused (number r.reason) r.place ≡ prepare_call g buf) × (m ≡ prepare_left g buf)
   unfolding prepare_call prepare_left initialized
   left-refused r h = rw (← stop v e r h) (refl, rw (← stop v e r h) at em)
 
-  module _ (h : v ≡ Verdict.Fine) where
+  module _ (h : v ≡ Ok tt) where
     passed : preparation_fault g buf ≡ none
     passed = sym (pass v e h)
 
@@ -71,9 +70,9 @@ module _ (g : Given) (buf : List Float) (v : Verdict) (m : List Float) (e : verd
         rw filled (put-put buf 0 (prepared_of g) (zeros (p + p)) (omega arith) (n ∙ sym (length-tab _ (p + p))))
 
     -- w is what the test of the columns found, and x what it left
-    pub left-settled : (w : Verdict) (x : List Float) → let all = all_usable p (take (p + p) m) in
-        (verdict_of w ≡ unless all 7 none) × (x ≡ pick all m (put m 0 (zeros (p + p))))
-        → (verdict_of w ≡ prepare_call g buf) × (x ≡ prepare_left g buf)
+    pub left-settled : (w : Result (Unit {0}) Refusal) (x : List Float) → let all = all_usable p (take (p + p) m) in
+        (outcome_of w ≡ unless all 7 none) × (x ≡ pick all m (put m 0 (zeros (p + p))))
+        → (outcome_of w ≡ prepare_call g buf) × (x ≡ prepare_left g buf)
     unfolding prepare_call prepare_left numbers_left
     left-settled w x q =
         rw passed (rw read_back at q.0, (rw (read_back, cleared, filled) at q.1) ∙ one_put (all_usable p (prepared_of g)))

@@ -6,5 +6,5 @@ use Rattle.quadratic.proofs.initialize.Goals as goal
 pub returns : goal.returns
 returns c =
     put_front c.args.prepared.now (c.args.x.now.matrix.shape.p + c.args.x.now.matrix.shape.p)
-    c.prepare.new.buf _ c.requires.0 c.prepare.auto.buf
+    c.prepare.new.buf _ c.requires.1 c.prepare.auto.buf
     c.prepare.ensures

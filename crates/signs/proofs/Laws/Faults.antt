@@ -15,8 +15,7 @@ use Rattle.doubles.proofs.Laws.Steps.{steps-same}
 use Rattle.designs.specs.Search.{or_else, mark}
 use Rattle.designs.specs.Given.{Given}
 use Rattle.designs.specs.Checks.{told, lengths, sizes, not_finite, numbers, csc_fault, contents, sized_fault, admitted, preparation_fault}
-use Rattle.designs.specs.declared.Found.{Found}
-use Rattle.designs.specs.declared.Found.TheVariants.{Nowhere}
+use Rattle.std.specs.Prelude.{Option, None}
 use Rattle.designs.specs.declared.Layout.{Layout}
 use Rattle.designs.specs.declared.Layout.TheVariants.{Dense, Csc}
 use Rattle.definition.specs.Preparation.{usable}
@@ -29,7 +28,7 @@ place_same : {s : ℕ → Bool} {xs xs' : List Float} → Signs s xs xs' → (fr
 unfolding not_finite
 place_same {s} {xs} {xs'} p from =
     rw (← signs-length p)
-    (steps-same (λ k r. or_else r (mark (not (finite (at xs k))) (from + k))) (λ k r. or_else r (mark (not (finite (at xs' k))) (from + k))) (length xs) Nowhere
+    (steps-same (λ k r. or_else r (mark (not (finite (at xs k))) (from + k))) (λ k r. or_else r (mark (not (finite (at xs' k))) (from + k))) (length xs) None
     (λ k l r. ap (λ (x : Bool). or_else r (mark (not x) (from + k))) (finite-turned (signs-at p k))))
 
 -- 10
@@ -42,8 +41,8 @@ handed_same : {c : ℕ → Bool} {t : Bool} {p : ℕ} {handed handed' : List Flo
     → handed_fault p handed ≡ handed_fault p handed'
 unfolding handed_fault
 handed_same {p = p} {handed = handed} {handed' = handed'} h =
-    ap (λ (r : Found). told 10 r none)
-    (steps-same (λ j r. or_else r (mark (not (acceptable_at p handed j)) j)) (λ j r. or_else r (mark (not (acceptable_at p handed' j)) j)) p Nowhere
+    ap (λ (r : Option ℕ). told 10 r none)
+    (steps-same (λ j r. or_else r (mark (not (acceptable_at p handed j)) j)) (λ j r. or_else r (mark (not (acceptable_at p handed' j)) j)) p None
     (λ j l r. ap (λ (x : Bool). or_else r (mark (not x) j)) (acceptable-same (h.constants j l) (h.products j l))))
 
 module _ (g : Given) {σ τ : ℕ → Bool} {values' y' : List Float} (v : Signs σ g.values values') (u : Signs τ g.targets y') where

@@ -6,6 +6,7 @@ use Rattle.doubles.specs.Steps.{zeros}
 use Rattle.designs.specs.declared.Shape.{Shape}
 use Rattle.definition.specs.Call.{End, untouched, given_up, done}
 use Rattle.definition.specs.declared.Report.{Report}
+use Rattle.definition.specs.declared.Status.TheVariants.{Met, Spent}
 use Rattle.iterations.specs.declared.Totals.{Totals}
 
 -- weights and fit; a run that was begun is never untouched
@@ -17,7 +18,7 @@ Leaves s (untouched number place) w fit = ⊥
 -- the report of what was counted
 abbrev pub report_from : Totals → Float → Report
 report_from c tolerance = record {
-  status = pick (le c.violation tolerance) 1 2;
+  status = pick (le c.violation tolerance) Met Spent;
   violation = c.violation;
   iterations = c.iterations;
   epochs = c.counts.epochs;

@@ -2,7 +2,7 @@
 use borrow.Author.Rules.{rules}
 use Rattle.doubles.proofs.Laws.Steps.{steps-none, steps_all}
 use Rattle.definition.specs.Epoch.{visits}
-use Rattle.definition.specs.Inner.Problem.{task_in}
+use Rattle.definition.specs.Inner.Problem.{as_task}
 use Rattle.visits.proofs.Laws.Violations.{broken_off}
 use Rattle.visits.proofs.Laws.Visits.{visits-more, visits_broken}
 use Rattle.visits.proofs.cd_epoch.Goals as goal
@@ -13,11 +13,11 @@ loop-j-init c = (search rules, search rules, steps-none _ _)
 pub returns-in_err-visit : goal.returns-in_err-visit
 returns-in_err-visit c =
     rw (broken_off _ c.from_residual.ensures.1)
-    (visits_broken (task_in c.args.problem.now) _ _ _ _ c.loop-j.invariant.2 c.in_err-visit.ensures (search rules))
+    (visits_broken (as_task c.args.task.now) _ _ _ _ c.loop-j.invariant.2 c.in_err-visit.ensures (search rules))
 
 pub loop-j-preserved : goal.loop-j-preserved
 loop-j-preserved c =
-    (search rules, search rules, visits-more (task_in c.args.problem.now) _ _ _ _ c.loop-j.invariant.2 _ c.in_ok-visit.ensures)
+    (search rules, search rules, visits-more (as_task c.args.task.now) _ _ _ _ c.loop-j.invariant.2 _ c.in_ok-visit.ensures)
 
 pub returns : goal.returns
 unfolding visits

@@ -6,7 +6,7 @@ use Rattle.visits.proofs.opt_cond_violation.Goals as goal
 
 pub returns : goal.returns
 returns c =
-    let P = c.args.problem.now in
+    let P = c.args.task.now in
     let x = P.x.matrix in
-    c.finish_violations.ensures ∙ ap (finished P.settings.penalty c.args.w.now) c.all_gradients.ensures
-    ∙ finished-measured x.shape x.starts.now x.rows.now x.values.now P.settings.penalty P.prepared.now c.args.w.now c.args.fit.now
+    c.finish_violations.ensures ∙ ap (finished P.penalty c.args.w.now) c.all_gradients.ensures
+    ∙ finished-measured x.shape x.starts.now x.rows.now x.values.now P.penalty P.prepared.now c.args.w.now c.args.fit.now

@@ -1,35 +1,37 @@
 -- The fits of a walk behind its tests, over buffers of exactly their room: each is a run with its alpha, on numbers that are prepared once.
-use Rattle.std.specs.Prelude.{◌≡◌, List, ℕ, Float}
+use Rattle.std.specs.Prelude.{◌≡◌, List, ℕ, Float, Option, Some, None}
 use Rattle.doubles.specs.Num.{at, pick}
 use Rattle.doubles.specs.Steps.{tab, zeros}
 use Rattle.doubles.specs.Answer.{Outcome, refused, answered}
 use Rattle.designs.specs.Given.{Given}
-use Rattle.designs.specs.declared.Found.{Found}
-use Rattle.designs.specs.declared.Found.TheVariants.{At, Nowhere}
 use Rattle.designs.specs.declared.Shape.{Shape}
 use Rattle.definition.specs.Preparation.{all_usable, prepared_of}
 use Rattle.definition.specs.Call.{scratch_room, End, untouched, solved, answer}
 use Rattle.definition.specs.Walk.{at_alpha, wanted, usable_fit, first_usable, end_at, placed, placed_at}
 use Rattle.definition.specs.declared.Settings.{Settings}
 use Rattle.definition.specs.declared.Usable.{Usable}
-use Rattle.definition.specs.declared.Fit.{Fit}
-use Rattle.definition.specs.declared.Fit.TheVariants as Fit
-use Rattle.extrapolation.specs.Inner.Places.{task_with}
+use Rattle.definition.specs.declared.Report.{Report}
+use Rattle.definition.specs.Epoch.{task}
 use Rattle.solvers.specs.Inner.Left.{Leaves}
 
 -- ---- one fit
 -- on any prepared numbers
 unfoldable pub fit_on : Given → List Float → Settings → End
-fit_on g prepared S = solved (task_with g S.penalty prepared) g.targets S
+fit_on g prepared S = solved (task g.shape g.starts g.rows g.values S.penalty prepared) g.targets S
 
 -- what is said of it at a position: itself where it is usable, else 11
 abbrev pub said : Settings → ℕ → ℕ → End → Outcome Usable
 said S most k e = pick (usable_fit S most e) (placed k (answer S e)) (refused 11 0)
 
 -- the same by its answer and its number of nonzero weights
-abbrev pub judged : Fit → ℕ → ℕ → ℕ → Outcome Usable
-judged (Fit.Refused r) nonzero most k = refused 11 0
-judged (Fit.Done r) nonzero most k = pick (wanted most r nonzero) (answered (record { position = k; report = r })) (refused 11 0)
+abbrev pub judged : Outcome Report → ℕ → ℕ → ℕ → Outcome Usable
+judged (refused number place) nonzero most k = refused 11 0
+judged (answered r) nonzero most k = pick (wanted most r nonzero) (answered (record { position = k; report = r })) (refused 11 0)
+
+-- what a search for a usable fit answers: 11 where it found none
+abbrev pub usable_of : Option Usable → Outcome Usable
+usable_of (Some u) = answered u
+usable_of None = refused 11 0
 
 -- ---- all fits
 -- each with the alpha at its place
@@ -55,6 +57,6 @@ pub record Holds (s : Shape) (S : Settings) (e : End) (w fit : List Float) (is :
   pub scratch : room ≡ zeros (scratch_room s S)
 
 -- where an alpha was found, as its run leaves them; else nothing is said
-abbrev pub HoldsAt : Shape → Settings → (ℕ → End) → Found → List Float → List Float → List ℕ → List Float → Type 0
-HoldsAt s S fits (At k) w fit is room = Holds s S (fits k) w fit is room
-HoldsAt s S fits Nowhere w fit is room = Unit {0}
+abbrev pub HoldsAt : Shape → Settings → (ℕ → End) → Option ℕ → List Float → List Float → List ℕ → List Float → Type 0
+HoldsAt s S fits (Some k) w fit is room = Holds s S (fits k) w fit is room
+HoldsAt s S fits None w fit is room = Unit {0}

@@ -5,14 +5,14 @@ use Rattle.listings.proofs.inner.put_refusal.Goals as goal
 
 pub put_labelled-behind-requires : goal.put_labelled-behind-requires
 unfolding refused_line codes
-put_labelled-behind-requires c = room-first _ _ c.requires
+put_labelled-behind-requires c = rw c.number.ensures (room-first _ _ c.requires)
 
 pub put_count_line-requires : goal.put_count_line-requires
 unfolding refused_line codes
 put_count_line-requires c =
-    room_next _ _ c.requires c.put_labelled-behind.ensures
+    room_next _ _ c.requires (rw c.number.ensures at c.put_labelled-behind.ensures)
 
 pub returns : goal.returns
 unfolding refused_line codes
 returns c =
-    wrote_both c.put_labelled-behind.ensures c.put_count_line.ensures
+    wrote_both (rw c.number.ensures at c.put_labelled-behind.ensures) c.put_count_line.ensures
