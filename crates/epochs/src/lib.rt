@@ -48,9 +48,10 @@ fn check(
     let everything = ws.len() == problem.x.matrix.shape.p;
     let v = ws_violation(&problem.task(), ws, w, fit)?;
     if is_enough(everything, problem.settings.tolerance, outer, v) {
-        return Ok(Pace::Stopped(counts));
+        Ok(Pace::Stopped(counts))
+    } else {
+        Ok(Pace::Going(counts))
     }
-    Ok(Pace::Going(counts))
 }
 
 // What the extrapolation looks at, where it is on.
@@ -120,9 +121,10 @@ fn run_epoch(
     cd_epoch(&problem.task(), ws, w, fit)?;
     let after = accelerate(problem, e, ws, w, fit, scratch, counts);
     if is_check_due(e) {
-        return check(problem, outer, ws, w, fit, after);
+        check(problem, outer, ws, w, fit, after)
+    } else {
+        Ok(Pace::Going(after))
     }
-    Ok(Pace::Going(after))
 }
 
 // The epochs of one working set.

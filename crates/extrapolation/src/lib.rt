@@ -143,10 +143,11 @@ fn choose(
 {
     if is_better(step, w, new, before) {
         fit.copy_from_slice(new);
-        return 1;
+        1
+    } else {
+        w.copy_from_slice(old);
+        0
     }
-    w.copy_from_slice(old);
-    0
 }
 
 // The candidate of a solution z of the system is tried; the number accepted.

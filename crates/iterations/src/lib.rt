@@ -135,7 +135,7 @@ fn run(
         here.shows_end P (here.refusing result) w.new fit.new scratch.new (call.concluded (def.run (task_in P) P.y.now P.settings)) }
 {
     let mut totals = NOTHING_COUNTED;
-    for t in 0..problem.settings.iterations {
+    for _t in 0..problem.settings.iterations {
         match turn(problem, w, fit, indices, scratch, totals)? {
             Pace::Going(now) => totals = now,
             Pace::Stopped(now) => return Ok(now),

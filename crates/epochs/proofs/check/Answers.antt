@@ -15,7 +15,7 @@ returns-then-is_enough c =
     let told = rw (task_is c.task.result c.args.problem.now c.task.ensures) at c.in_ok-v.ensures in
     (λ kept. checked_stops _ _ _ _ _ _ told _ _ refl c.is_enough.ensures c.if-is_enough.true, refl)
 
-pub returns : goal.returns
-returns c =
+pub returns-else-is_enough : goal.returns-else-is_enough
+returns-else-is_enough c =
     let told = rw (task_is c.task.result c.args.problem.now c.task.ensures) at c.in_ok-v.ensures in
     (λ kept. checked_goes _ _ _ _ _ _ told _ _ refl c.is_enough.ensures c.if-is_enough.false, refl)

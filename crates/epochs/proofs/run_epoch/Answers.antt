@@ -20,8 +20,8 @@ returns-then-is_check_due c =
     let checked = epoch-checked (task_in c.args.problem.now) _ _ _ _ _ _ _ _ _ _ _ told _ _ _ _ e.0 in
     (checked _ c.is_check_due.ensures c.if-is_check_due.true _ (c.check.ensures.0 _), counts.0, counts.1)
 
-pub returns : goal.returns
-returns c =
+pub returns-else-is_check_due : goal.returns-else-is_check_due
+returns-else-is_check_due c =
     let told = rw (task_is c.task.result c.args.problem.now c.task.ensures) at c.in_ok-cd_epoch.ensures in
     let e = c.accelerate-after.ensures in
     let unchecked = epoch_unchecked (task_in c.args.problem.now) _ _ _ _ _ _ _ _ _ _ _ told _ _ _ _ e.0 in

@@ -11,11 +11,11 @@ returns-then-is_better c =
       c.copy_from_slice.ensures.after,
     )
 
-pub returns : goal.returns
+pub returns-else-is_better : goal.returns-else-is_better
 unfolding chosen_by
-returns c =
+returns-else-is_better c =
     rw (
       ← c.is_better.ensures,
       c.if-is_better.false,
-      c.copy_from_slice-2.ensures.after,
+      c.copy_from_slice-else-is_better.ensures.after,
     )

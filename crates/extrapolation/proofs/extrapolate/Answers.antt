@@ -40,5 +40,6 @@ returns c =
     let regular = rw c.eliminate.ensures.1 at c.is_regular.ensures in
     let read = rw c.eliminate.ensures.1 at c.solution.ensures in
     let off = c.if-not-is_regular.false in
-    let by = λ (q : List Float). from-regular (task_with c.args.step.now q) _ _ _ _ _ _ _ _ _ rows c.system.ensures c.eliminate.ensures.0 regular off _ read _ in
+    let by = λ (q : List Float).
+    from-regular (task_with c.args.step.now q) _ _ _ _ _ _ _ _ _ rows c.system.ensures c.eliminate.ensures.0 regular off _ read _ in
     (λ q. by q (c.try_candidate.ensures.0 q), c.try_candidate.ensures.1)

@@ -6,4 +6,4 @@ use Rattle.iterations.proofs.run.Given as goal
 
 abbrev pub invariant-loop-t : goal.invariant-loop-t
 invariant-loop-t l = (length l.indices ≡ length l.initial.indices)
-    × Turned l.problem l.initial.w l.initial.fit l.initial.scratch l.t l.totals l.w l.fit l.scratch
+    × Turned l.problem l.initial.w l.initial.fit l.initial.scratch l._t l.totals l.w l.fit l.scratch
