@@ -5,17 +5,13 @@ use Prim.Native.Nat.{ℕ, ◌≤◌}
 use native.Mathlib.Nat.{le_of_eq, le_trans}
 use native.Mathlib.Omega.{arith}
 use mathlib.Core.List.{List}
-use lib.ListN.{length, take, replicate, length-replicate}
+use lib.ListN.{length, take, replicate}
 use lib.Seq.{length-take-le}
 use lib.Ieee.{Float}
 use Rattle.doubles.specs.Num.{◌and◌}
 use Rattle.doubles.specs.Buffer.{put}
 use Rattle.doubles.proofs.Laws.Parts.{part_at}
-use Rattle.doubles.specs.Answer.{Outcome, refused, answered, verdict_of}
-use Rattle.doubles.specs.declared.Refusal.{Refusal}
-use Rattle.doubles.specs.declared.Verdict.{Verdict}
-use Rattle.doubles.specs.declared.Verdict.TheVariants as Verdict
-use Rattle.doubles.proofs.Laws.Verdict.{stop, pass}
+use Rattle.doubles.specs.Answer.{Outcome, refused, answered, none}
 use Rattle.designs.specs.Given.{Given, given}
 use Rattle.definition.specs.Preparation.{prepare_call, prepare_left}
 use Rattle.definition.specs.Call.{Lent, early_fault, answer, buffers, solve_call, solve_left}
@@ -29,30 +25,30 @@ use Rattle.listings.specs.Call.{write_call, write_left}
 use Rattle.listings.proofs.Laws.Calls.{write_fits}
 use Rattle.answers.specs.Printed.{prepared_places}
 use Rattle.answers.specs.Printed.{problem_fit, problem_left, printed_for, printed, text_call, text_left, answer_call, answer_left}
-use Rattle.answers.specs.Inner.InPlaces.{ProblemInside, problem_in}
+use Rattle.answers.specs.Inner.InPlaces.{problem_in}
 
 take-few : (p m : ℕ) (l : List Float) → p ≤ length l → p ≤ m → length (take p l) ≤ m
 take-few p m l h k = le_trans (le_of_eq (length-take-le p l h)) k
 
 -- ---- the fit of a problem
-module _ (g : Given) (S : Settings) (b : Lent) (early : Verdict) (e : verdict_of early ≡ early_fault g S) where
+module _ (g : Given) (S : Settings) (b : Lent) where
   abbrev pub Fitted : Outcome Report → Lent → Type 0
   Fitted o b' = (o ≡ answer S (ordered_end g S prepared_places b)) × (b' ≡ buffers g.shape S b (ordered_end g S prepared_places b))
 
-  pub early_refused : (r : Refusal) → early ≡ Verdict.Refused r → Fitted (refused r.number r.place) b
+  pub early_refused : (number place : ℕ) → refused number place ≡ early_fault g S → Fitted (refused number place) b
   unfolding ordered_end
-  early_refused r h = rw (← stop early e r h) (refl, refl)
+  early_refused number place h = rw (← h) (refl, refl)
 
   -- the sizes and the settings have passed, and the preparation leaves these numbers
-  module _ (h : early ≡ Verdict.Fine) (v : Verdict) (numbers : List Float)
-      (q : (verdict_of v ≡ prepare_call g prepared_places) × (numbers ≡ prepare_left g prepared_places)) where
-    pub preparation-refused : (r : Refusal) → v ≡ Verdict.Refused r → Fitted (refused r.number r.place) b
+  module _ (h : none ≡ early_fault g S) (numbers : List Float) (q : numbers ≡ prepare_left g prepared_places) where
+    pub preparation-refused : (number place : ℕ) → refused number place ≡ prepare_call g prepared_places → Fitted (refused number place) b
     unfolding ordered_end pair_end
-    preparation-refused r k = rw (← pass early e h, ← stop v q.0 r k) (refl, refl)
+    preparation-refused number place k = rw (← h, ← k) (refl, refl)
 
-    pub problem-solved : v ≡ Verdict.Fine → (o : Outcome Report) (b' : Lent) → (o ≡ solve_call g S numbers b) × (b' ≡ solve_left g S numbers b) → Fitted o b'
+    pub problem-solved : none ≡ prepare_call g prepared_places → (o : Outcome Report) (b' : Lent)
+        → (o ≡ solve_call g S numbers b) × (b' ≡ solve_left g S numbers b) → Fitted o b'
     unfolding ordered_end pair_end solve_call solve_left
-    problem-solved k o b' s = rw (← pass early e h, ← pass v q.0 k, ← q.1) s
+    problem-solved k o b' s = rw (← h, ← k, ← q) s
 
 -- ---- the listing of a fit
 pub fit-listed : (P : Problem) (o : Outcome Report) (b : Lent) (out out' : List ℕ) (r : Outcome ℕ) → o ≡ problem_fit P → b ≡ problem_left P
@@ -112,20 +108,3 @@ fit-printed f P out out' r ep er el = (er ∙ rw ep, el ∙ rw ep)
 pub own_room : (x : Float) → places_suffice (places (replicate 6144 x) (replicate 4096 x) (replicate 12288 0) (replicate 12288 0)) ≡ true
 unfolding places_suffice ◌and◌
 own_room x = refl
-
-pub own_places : (z : Sizes) (t v : List Float) (s r : List ℕ) (x : Float) → length t ≡ length (replicate 6144 x) → length v ≡ length (replicate 4096 x)
-    → length s ≡ length (replicate {A = ℕ} 12288 0) → length r ≡ length (replicate {A = ℕ} 12288 0)
-    → (z.targets ≤ 6144) × (z.values ≤ 4096) × (z.starts ≤ 12288) × (z.rows ≤ 12288) × (z.shape.n ≤ 256) × (z.shape.p ≤ 32)
-    → ProblemInside z (length t) (length v) (length s) (length r)
-own_places z t v s r x et ev es er i =
-    let a = length-replicate 6144 x in
-    let b = length-replicate 4096 x in
-    let c = length-replicate {A = ℕ} 12288 0 in
-    record {
-      targets = le_trans i.0 (le_of_eq (sym (et ∙ a)));
-      values = le_trans i.1 (le_of_eq (sym (ev ∙ b)));
-      starts = le_trans i.2 (le_of_eq (sym (es ∙ c)));
-      rows = le_trans i.3 (le_of_eq (sym (er ∙ c)));
-      samples = i.4;
-      features = i.5;
-    }

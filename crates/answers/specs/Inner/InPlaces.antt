@@ -8,16 +8,16 @@ use Rattle.answers.specs.Printed.{printed_for}
 
 -- its arrays lie in the first places, and its sizes are the program's
 pub record ProblemInside (z : Sizes) (a b c d : ℕ) : Type 0 where
-  pub targets : z.targets ≤ a
-  pub values : z.values ≤ b
-  pub starts : z.starts ≤ c
-  pub rows : z.rows ≤ d
+  pub targets : z.counts.targets ≤ a
+  pub values : z.counts.values ≤ b
+  pub starts : z.counts.starts ≤ c
+  pub rows : z.counts.rows ≤ d
   pub samples : z.shape.n ≤ 256
   pub features : z.shape.p ≤ 32
 
 abbrev pub problem_in : Sizes → List Float → List Float → List ℕ → List ℕ → Problem
 problem_in z targets values starts rows = record {
-  given = given z.shape (take z.starts starts) (take z.rows rows) (take z.values values) (take z.targets targets);
+  given = given z.shape (take z.counts.starts starts) (take z.counts.rows rows) (take z.counts.values values) (take z.counts.targets targets);
   settings = z.settings;
 }
 
