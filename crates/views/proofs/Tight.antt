@@ -52,25 +52,30 @@ walk_tight : (κs : _) (a : _) (r r' : Result Usable Refusal) (s s' : _) → wal
 walk_tight κs a r r' s s' p q =
     (one_outcome r r' (coincide p.0 q.0), same_lents s.1.1.1.1.1 s'.1.1.1.1.1 (coincide p.2 q.2) (coincide p.1 q.1))
 
-compute_alpha_max_tight : (κs : _) (a : _) (r r' : Result Float Refusal) (s s' : _) → compute_alpha_max_sparse-reads.Post κs a r s → compute_alpha_max_sparse-reads.Post κs a r' s'
+compute_alpha_max_tight : (κs : _) (a : _) (r r' : Result Float Refusal) (s s' : _) → compute_alpha_max_sparse-reads.Post κs a r s
+    → compute_alpha_max_sparse-reads.Post κs a r' s'
     → (r ≡ r') × (s.1.1.1.1.0.now ≡ s'.1.1.1.1.0.now)
 compute_alpha_max_tight κs a r r' s s' p q = (one_outcome r r' (coincide p.0 q.0), coincide p.1 q.1)
 
-initialize_tight : (κs : _) (a : _) (r r' : Result (Unit {0}) Refusal) (s s' : _) → initialize_sparse-reads.Post κs a r s → initialize_sparse-reads.Post κs a r' s'
+initialize_tight : (κs : _) (a : _) (r r' : Result (Unit {0}) Refusal) (s s' : _) → initialize_sparse-reads.Post κs a r s
+    → initialize_sparse-reads.Post κs a r' s'
     → (r ≡ r') × (s.1.1.1.1.0.now ≡ s'.1.1.1.1.0.now)
 initialize_tight κs a r r' s s' p q = (one_outcome r r' (coincide p.0 q.0), coincide p.1 q.1)
 
-gradient_j_tight : (κs : _) (a : _) (r r' : Result Float Refusal) (s s' : _) → gradient_j_sparse-reads.Post κs a r s → gradient_j_sparse-reads.Post κs a r' s' → r ≡ r'
+gradient_j_tight : (κs : _) (a : _) (r r' : Result Float Refusal) (s s' : _) → gradient_j_sparse-reads.Post κs a r s
+    → gradient_j_sparse-reads.Post κs a r' s' → r ≡ r'
 gradient_j_tight κs a r r' s s' p q = one_outcome r r' (coincide p q)
 
 full_grad_tight : (κs : _) (a : _) (r r' : Result (Unit {0}) Refusal) (s s' : _) → full_grad_sparse-reads.Post κs a r s → full_grad_sparse-reads.Post κs a r' s'
     → (r ≡ r') × (s.1.1.1.1.1.0.now ≡ s'.1.1.1.1.1.0.now)
 full_grad_tight κs a r r' s s' p q = (one_outcome r r' (coincide p.0 q.0), coincide p.1 q.1)
 
-update_model_fit_tight : (κs : _) (a : _) (r r' : Result (Unit {0}) Refusal) (s s' : _) → update_model_fit_sparse-reads.Post κs a r s → update_model_fit_sparse-reads.Post κs a r' s'
+update_model_fit_tight : (κs : _) (a : _) (r r' : Result (Unit {0}) Refusal) (s s' : _) → update_model_fit_sparse-reads.Post κs a r s
+    → update_model_fit_sparse-reads.Post κs a r' s'
     → (r ≡ r') × (s.1.1.1.0.now ≡ s'.1.1.1.0.now)
 update_model_fit_tight κs a r r' s s' p q = (one_outcome r r' (coincide p.0 q.0), coincide p.1 q.1)
 
-compute_extrapolated_fit_tight : (κs : _) (a : _) (r r' : Result (Unit {0}) Refusal) (s s' : _) → compute_extrapolated_fit_sparse-reads.Post κs a r s → compute_extrapolated_fit_sparse-reads.Post κs a r' s'
+compute_extrapolated_fit_tight : (κs : _) (a : _) (r r' : Result (Unit {0}) Refusal) (s s' : _) → compute_extrapolated_fit_sparse-reads.Post κs a r s
+    → compute_extrapolated_fit_sparse-reads.Post κs a r' s'
     → (r ≡ r') × (s.1.1.1.1.1.0.now ≡ s'.1.1.1.1.1.0.now)
 compute_extrapolated_fit_tight κs a r r' s s' p q = (one_outcome r r' (coincide p.0 q.0), coincide p.1 q.1)
