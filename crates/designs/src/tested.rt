@@ -11,5 +11,5 @@ pub struct Tested<'a> {
     pub matrix: Matrix<'a>,
     // The slices are those of the layout.
     pub ghost dense: { matrix.shape.layout ≡ Dense → matrix.shape.n * matrix.shape.p ≤ length matrix.values.now },
-    pub ghost csc: { matrix.shape.layout ≡ Csc → Sound matrix.shape.n matrix.shape.p matrix.starts.now matrix.rows.now matrix.values.now } by { Prim.hlevel props },
+    pub ghost csc: { let s = matrix.shape in s.layout ≡ Csc → Sound s.n s.p matrix.starts.now matrix.rows.now matrix.values.now } by { Prim.hlevel props },
 }

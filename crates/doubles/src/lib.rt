@@ -8,7 +8,8 @@ ghost use Rattle.doubles.specs.Answer as answer;
 ghost use Rattle.doubles.specs.Num as num;
 ghost use Rattle.doubles.specs.declared.Reason.TheVariants.{NotFinite};
 
-// A call that may refuse answers Ok of its answer, or Err of a refusal. Why it refuses, in the order of document 01's numbers, and document 02's 10 and 11 behind them.
+// A call that may refuse answers Ok of its answer, or Err of a refusal. Why it refuses, in the order of document 01's numbers, and document 02's 10
+// and 11 behind them.
 #[derive(Clone, Copy, PartialEq, Eq, Debug, Drop)]
 pub enum Reason {
     Sizes = 1,

@@ -5,20 +5,13 @@ use mathlib.Core.List.{List}
 use Prim.Native.Nat.{ℕ}
 use lib.Ieee.{Float}
 use denote.MutBor.{MutBor}
-use Rattle.doubles.proofs.Tight.{coincide, same_refusal}
+use Rattle.std.specs.Prelude.{Result}
+use Rattle.doubles.proofs.Tight.{coincide, one_outcome}
+use Rattle.doubles.specs.declared.Refusal.{Refusal}
 use Rattle.definition.specs.Call.{Lent, lent}
-use Rattle.definition.specs.Walk.{walk_of}
 use Rattle.definition.specs.declared.Settings.{Settings}
-use Rattle.definition.specs.declared.Walk.{Walk}
-use Rattle.definition.specs.declared.Walk.TheVariants as Walk
+use Rattle.definition.specs.declared.Usable.{Usable}
 use Rattle.walks.proofs.walk.Reads as walk_reads
-
--- a reading loses nothing
-pub one_walk : (a b : Walk) → walk_of a ≡ walk_of b → a ≡ b
-one_walk (Walk.Refused r) (Walk.Refused s) e = ap Walk.Refused (same_refusal (cc) (cc))
-one_walk (Walk.Refused r) (Walk.Found y) e = cc
-one_walk (Walk.Found x) (Walk.Refused s) e = cc
-one_walk (Walk.Found x) (Walk.Found y) e = cc
 
 -- ---- the lent parameters, from the prepared numbers on; the settings and `most` stand among them
 abbrev pub Lents : Type 0
@@ -41,7 +34,7 @@ pub same_lents : (t t' : Lents) → t.0.now ≡ t'.0.now → buffers_in t ≡ bu
 same_lents t t' n b =
     (n, ap (λ (b : Lent). b.weights) b, ap (λ (b : Lent). b.fit) b, ap (λ (b : Lent). b.indices) b, ap (λ (b : Lent). b.scratch) b)
 
-walk_tight : (κs : _) (a : _) (r r' : Walk) (s s' : _) → walk_reads.Post κs a r s → walk_reads.Post κs a r' s'
-    → (r ≡ r') × SameLents s.1.1.1.1.1.1 s'.1.1.1.1.1.1
+walk_tight : (κs : _) (a : _) (r r' : Result Usable Refusal) (s s' : _) → walk_reads.Post κs a r s → walk_reads.Post κs a r' s'
+    → (r ≡ r') × SameLents s.1.1.1 s'.1.1.1
 walk_tight κs a r r' s s' p q =
-    (one_walk r r' (coincide p.0 q.0), same_lents s.1.1.1.1.1.1 s'.1.1.1.1.1.1 (coincide p.2 q.2) (coincide p.1 q.1))
+    (one_outcome r r' (coincide p.0 q.0), same_lents s.1.1.1 s'.1.1.1 (coincide p.2 q.2) (coincide p.1 q.1))

@@ -165,7 +165,7 @@ fn walk_inside(
     scratch: &mut [f64],
 ) -> Result<Usable, Refusal>
     requires { let s = x.now.matrix.shape in
-        (length y.now ≡ s.n) × (length prepared.old ≡ s.p + s.p) × (call.settings_fault settings ≡ none)
+        (s.n ≤ 65536) × (s.p ≤ 8192) × (length y.now ≡ s.n) × (length prepared.old ≡ s.p + s.p) × (call.settings_fault settings ≡ none)
         × (length w.old ≡ s.p) × (length fit.old ≡ s.n) × (length indices.old ≡ s.p)
         × (length scratch.old ≡ call.scratch_room s settings) × (walk'.list_legal alphas.now ≡ true) }
     ensures { let s = x.now.matrix.shape in

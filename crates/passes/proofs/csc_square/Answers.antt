@@ -36,4 +36,5 @@ returns c =
     let stored = c.stored_of-start.ensures in
     let end : c.stored_of-start.result.start + c.stored_of-start.result.many ≤ length c.args.x.now.matrix.values.now =
     rw (stored.0, stored.1) (column-end (c.args.x.now.csc c.requires.0) _ c.requires.1) in
-    rw (as_csc _ _ _ _ _ _ c.requires.0, ← stored.1, ← stored.0) (part-squares _ _ _ _ _ end c.loop-value.invariant c.loop-value.auto.value-index-end c.loop-value-test.false)
+    let squares = part-squares _ _ _ _ _ end c.loop-value.invariant c.loop-value.auto.value-index-end c.loop-value-test.false in
+    rw (as_csc _ _ _ _ _ _ c.requires.0, ← stored.1, ← stored.0) squares

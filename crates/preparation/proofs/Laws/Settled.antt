@@ -27,7 +27,8 @@ use Rattle.definition.specs.Preparation.{all_usable, prepared_of, prepare_call, 
 use Rattle.definition.proofs.Laws.Prepared.{prepared-long}
 
 -- v is what the tests found, and m what was left of the lent buffer
-module _ (g : Given) (buf : List Float) (v : Result (Unit {0}) Refusal) (m : List Float) (e : outcome_of v ≡ preparation_fault g buf) (em : m ≡ initialized g buf) where
+module _ (g : Given) (buf : List Float) (v : Result (Unit {0}) Refusal) (m : List Float) (e : outcome_of v ≡ preparation_fault g buf)
+    (em : m ≡ initialized g buf) where
   abbrev p : ℕ
   p = g.shape.p
 

@@ -10,11 +10,15 @@ use lib.Ieee.{Float}
 use Rattle.doubles.specs.Num.{#0, at, pick}
 use Rattle.doubles.specs.Steps.{tab, zeros}
 use Rattle.doubles.specs.Buffer.{put}
-use Rattle.doubles.specs.Answer.{Outcome, refused, answered, Fault, none}
+use Rattle.doubles.specs.Answer.{Outcome, refused, answered, none}
 use Rattle.std.specs.Prelude.{Option, Some, None}
 use Rattle.doubles.proofs.Laws.Ends.{refused≢answered}
 use Rattle.doubles.proofs.Laws.Steps.{steps-none, steps-same}
-use Rattle.penalties.proofs.Alpha.{alpha_again}
+use Rattle.penalties.specs.Penalty.{alpha_of, with_alpha}
+use Rattle.penalties.specs.declared.separable.Penalty.{Penalty}
+use Rattle.penalties.specs.declared.separable.Penalty.TheVariants.{L1, L1PlusL2, MCP}
+use Rattle.penalties.proofs.Alpha.{another_alpha, alpha_again, zero-legal}
+use Rattle.penalties.proofs.Odd.{alpha_legal_lem}
 use Rattle.designs.specs.Given.{Given}
 use Rattle.designs.specs.Search.{or_else, first_of, mark}
 use Rattle.designs.specs.Checks.{preparation_fault}
@@ -22,18 +26,19 @@ use Rattle.designs.specs.declared.Shape.{Shape}
 use Rattle.designs.proofs.Laws.Search.{mark_on, mark_here}
 use Rattle.definition.specs.WorkingSet.{nonzeros}
 use Rattle.definition.specs.Preparation.{all_usable, prepared_of}
-use Rattle.definition.specs.Call.{scratch_room, Lent, End, untouched, given_up, done, solved, behind, report_of, answer, buffers}
+use Rattle.definition.specs.Call.{start_legal, depth_legal, settings_fault, scratch_room, Lent, End}
+use Rattle.definition.specs.Call.{untouched, given_up, done, solved, report_of, answer, buffers}
 use Rattle.definition.specs.Walk.{with_penalty, at_alpha, list_legal, walk_tests, usable_fit, first_usable, fit_at}
 use Rattle.definition.specs.Walk.{position, end_at, walk_end, placed, placed_at, walk_call}
 use Rattle.definition.specs.Walk.{walk_left, walk_numbers}
 use Rattle.definition.specs.declared.Settings.{Settings}
 use Rattle.definition.specs.declared.Report.{Report}
 use Rattle.definition.specs.declared.Usable.{Usable}
+use Rattle.definition.proofs.Laws.Settings.{penalty-legal}
 use Rattle.definition.proofs.Laws.Pair.{pair_runs, pair_seven}
 use Rattle.definition.proofs.Laws.Walk.{same-room, same_answer, settings-each, Passed, passed, preparation_passes, solve-each}
 use Rattle.definition.proofs.Laws.Walk.{usable-answered, chosen, none_usable}
 use Rattle.definition.specs.Epoch.{task}
-use Rattle.epochs.specs.Inner.Reading.{Ready}
 use Rattle.solvers.specs.Inner.Left.{Leaves}
 use Rattle.walks.specs.Inner.Fits.{fit_on, fit_with, said, judged, usable_of, end_of, answer_of, fit_passed, Holds, HoldsAt}
 
@@ -114,6 +119,22 @@ tried_alpha g S prepared alpha most k t et v w fit is room h =
     )
 
 -- ---- all of them, in the loop
+-- legal settings are legal with each alpha of a legal list
+own_alpha : (P : Penalty) → with_alpha P (alpha_of P) ≡ P
+own_alpha (L1 alpha) = refl
+own_alpha (L1PlusL2 alpha r) = refl
+own_alpha (MCP alpha gamma) = refl
+
+at_zero : (S : Settings) → settings_fault S ≡ none → settings_fault (at_alpha S #0) ≡ none
+unfolding settings_fault start_legal depth_legal
+at_zero S e =
+    let own = alpha_legal_lem S.penalty (penalty-legal S e) in
+    rw (another_alpha S.penalty #0 (alpha_of S.penalty) (zero-legal ∙ sym own), own_alpha S.penalty) e
+
+pub legal-each : (S : Settings) → settings_fault S ≡ none → (alphas : List Float) → list_legal alphas ≡ true → (k : ℕ) → k < length alphas
+    → settings_fault (at_alpha S (at alphas k)) ≡ none
+legal-each S e alphas h k l = settings-each alphas h S (at_zero S e) k l
+
 -- the buffers as ready with another alpha
 pub room-each : (s : Shape) (S : Settings) (a : Float) → scratch_room s (at_alpha S a) ≡ scratch_room s S
 unfolding scratch_room
@@ -239,11 +260,21 @@ module _ (g : Given) (S : Settings) (alphas : List Float) (a : Float) where
     unfolding first_usable
     first-alike fits = ap (λ (u : ℕ → Bool). first_of (λ k. mark (u k) k) many') (λ i k. usable-alike (fits k) i)
 
-    pub end-alike : end_of (at_alpha S a) most (fit_passed g (at_alpha S a) alphas) many' ≡ end_of S most (fit_passed g S alphas) many'
+    end-alike : end_of (at_alpha S a) most (fit_passed g (at_alpha S a) alphas) many' ≡ end_of S most (fit_passed g S alphas) many'
     end-alike = rw (first-alike (fit_passed g (at_alpha S a) alphas), fits-alike)
 
-    pub answer-alike : answer_of (at_alpha S a) most (fit_passed g (at_alpha S a) alphas) many' ≡ answer_of S most (fit_passed g S alphas) many'
+    answer-alike : answer_of (at_alpha S a) most (fit_passed g (at_alpha S a) alphas) many' ≡ answer_of S most (fit_passed g S alphas) many'
     answer-alike = rw (first-alike (fit_passed g (at_alpha S a) alphas), fits-alike, same_answer S a _)
+
+    -- t are the settings with a good alpha
+    pub walked_good : (t : Settings) → t ≡ at_alpha S a → (o : Outcome Usable) (w fit : List Float) (is : List ℕ) (room : List Float)
+        → (let fits = fit_passed g t alphas in (o ≡ answer_of t most fits many') × Holds g.shape t (end_of t most fits many') w fit is room)
+        → (let fits = fit_passed g S alphas in (o ≡ answer_of S most fits many') × Holds g.shape S (end_of S most fits many') w fit is room)
+    walked_good t et o w fit is room h =
+        let r = rw et at h in (
+          r.0 ∙ answer-alike,
+          record { leaves = rw (← end-alike) r.1.leaves; indices = r.1.indices; scratch = r.1.scratch ∙ ap zeros (same-room g S a) },
+        )
 
 -- ---- the walk, by what its tests found
 module _ (g : Given) (S : Settings) (alphas : List Float) (most : ℕ) (buf : List Float) (b : Lent) where
