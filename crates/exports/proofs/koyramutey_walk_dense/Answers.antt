@@ -1,8 +1,8 @@
--- `koyramutey_walk_dense`: the walk with the shape and the settings that the numbers stand for, and its answer in numbers. Assumes nothing.
-use Rattle.plain_numbers.proofs.Laws.Codes.{walked}
+-- `koyramutey_walk_dense`: the walk over a dense design with the settings that the numbers stand for, and its answer in numbers. Assumes nothing.
+use Rattle.plain_numbers.proofs.Laws.Codes.{dense_given, walked}
 use Rattle.exports.proofs.koyramutey_walk_dense.Goals as goal
 
 pub returns : goal.returns
 returns c =
-    let done = walked _ _ _ _ _ _ c.dense.ensures c.settings_of-settings.ensures _ _ _ c.walk-walked.ensures in
-    done c.tell_walk.ensures
+    let g = dense_given c.dense.result c.args.y.now c.dense.ensures in
+    walked _ _ g c.settings_of-settings.ensures _ _ _ c.walk-walked.ensures c.tell_walk.ensures
