@@ -2,7 +2,7 @@
 ghost use Rattle.std.specs.Prelude.{◌≡◌, ◌<◌, ◌≤◌};
 ghost use Rattle.list_reader.specs.ProgressWithin.{ProgressWithin};
 
-use crate::progress::{Compared, Progress};
+use crate::progress::{NoRecord, Progress};
 use crate::{Fed, Words, feed, progress};
 use std::fmt::Display;
 use std::fs::File;
@@ -54,7 +54,7 @@ impl Progress {
     pub fn next(
         &mut self,
         rt: &(impl Print + Eprint),
-        compared: Compared,
+        compared: Result<bool, NoRecord>,
         path: &[u8],
         bytes: &mut Bytes,
         words: &mut Words,
@@ -85,7 +85,7 @@ fn take_byte(rt: &impl Print, p: &mut Progress, byte: u8, words: &mut Words)
         Fed::Record(n) => p.line_ended(n),
         Fed::Bad => {
             p.line_ended(0);
-            p.count(rt, Compared::Bad);
+            p.count(rt, Err(NoRecord));
         }
     }
 }
@@ -104,13 +104,13 @@ fn fill(
 {
     let Some(file) = &mut p.file else {
         fail(rt, path, "not open");
-        p.count(rt, Compared::Bad);
+        p.count(rt, Err(NoRecord));
         return over(rt, p);
     };
     match file.read(bytes) {
         Err(error) => {
             fail(rt, path, error);
-            p.count(rt, Compared::Bad);
+            p.count(rt, Err(NoRecord));
             over(rt, p);
         }
         Ok(0) => {

@@ -5,22 +5,9 @@ ghost use Rattle.list_reader.specs.ProgressWithin.{ProgressWithin};
 use crate::{Reader, start};
 use std::fs::File;
 
-// What became of a record.
+// No record: an unknown code or kind, or not the code's number of words.
 #[derive(Clone, Copy, Drop)]
-pub enum Compared {
-    Same,
-    Differs,
-    // No record: an unknown code or kind, or not the code's number of words.
-    Bad,
-}
-
-pub fn judge(is_same: bool) -> Compared {
-    if is_same {
-        Compared::Same
-    } else {
-        Compared::Differs
-    }
-}
+pub struct NoRecord;
 
 // The records so far, and those of them that differ or are bad.
 #[derive(Clone, Copy, Drop)]
@@ -98,18 +85,18 @@ impl Progress {
         self.found = 0;
     }
 
-    // A line ended that was to be a record.
-    pub fn count(&mut self, rt: &impl Print, compared: Compared)
+    // A line ended that was to be a record. `compared` says whether the port answers as the record does.
+    pub fn count(&mut self, rt: &impl Print, compared: Result<bool, NoRecord>)
         requires { ProgressWithin self.old }
         ensures { ProgressWithin self.new × (self.new.left ≡ self.old.left) }
     {
         match compared {
-            Compared::Same => self.add_record(0),
-            Compared::Differs => {
+            Ok(true) => self.add_record(0),
+            Ok(false) => {
                 name_wrong(rt, self, " differs\n");
                 self.add_record(1);
             }
-            Compared::Bad => {
+            Err(NoRecord) => {
                 name_wrong(rt, self, " bad\n");
                 self.add_record(1);
             }

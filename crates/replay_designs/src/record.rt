@@ -13,7 +13,7 @@ use list_reader::outcomes::same_number;
 use list_reader::parts::{
     Doubles, Part, all_narrow, doubles_of, indices_of, part_of, same_doubles,
 };
-use list_reader::progress::{Compared, judge};
+use list_reader::progress::NoRecord;
 
 // A call beside its slices. Where the code has no feature or no difference, these are any words.
 #[derive(Drop)]
@@ -61,28 +61,29 @@ fn doubles_answered(code: u64) -> usize
     }
 }
 
-pub fn replay(words: &Words, n: usize) -> Compared
+// Whether the port answers as the record does.
+pub fn replay(words: &Words, n: usize) -> Result<bool, NoRecord>
     requires { n ≤ 1024 }
 {
     let code = words[0];
     if code < 0x10 || 0x17 < code {
-        return Compared::Bad;
+        return Err(NoRecord);
     }
     if code != 0x13 && 1 < words[1] {
-        return Compared::Bad;
+        return Err(NoRecord);
     }
     let arrays = arrays_of(words, code);
     if !indices_fit(words, code, arrays) {
-        return Compared::Bad;
+        return Err(NoRecord);
     }
     let lent = arrays.lent;
     let at = lent.next + scalars(code);
     if n != at + 2 + doubles_answered(code) + lent.count {
-        return Compared::Bad;
+        return Err(NoRecord);
     }
     let answers = answers_of(words, n, code, at, lent.count);
     let call = call_of(words, code, lent.next);
-    judge(agrees(words, call, arrays, answers))
+    Ok(agrees(words, call, arrays, answers))
 }
 
 // Starts, rows and the features of code 15 are numbers of 32 bits.

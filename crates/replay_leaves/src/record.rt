@@ -7,28 +7,27 @@ use elimination::helpers;
 use elimination::helpers::Unsolved;
 use list_reader::outcomes::same_refusal;
 use list_reader::parts::penalty_at;
-use list_reader::progress::{Compared, judge};
+use list_reader::progress::NoRecord;
 use list_reader::{Words, same};
 use penalties::inner;
 
-pub fn replay(words: &Words, n: usize) -> Compared {
+// Whether the port answers as the record does.
+pub fn replay(words: &Words, n: usize) -> Result<bool, NoRecord> {
     match words[0] {
         5 => solve(words, n),
         6 => inner_violation(words, n),
         7 => inner_value(words, n),
-        _ => Compared::Bad,
+        _ => Err(NoRecord),
     }
 }
 
-fn inner_violation(words: &Words, n: usize) -> Compared {
-    let Some(penalty) = penalty_at(words, 1) else {
-        return Compared::Bad;
-    };
+fn inner_violation(words: &Words, n: usize) -> Result<bool, NoRecord> {
+    let penalty = penalty_at(words, 1).ok_or(NoRecord)?;
     if n != 7 {
-        return Compared::Bad;
+        return Err(NoRecord);
     }
     let r = inner::violation(penalty, double(words[4]), double(words[5]));
-    judge(same(r, double(words[6])))
+    Ok(same(r, double(words[6])))
 }
 
 // ---- records with a list of weights
@@ -45,20 +44,18 @@ fn weights(words: &Words, count: usize) -> [f64; 64]
     w
 }
 
-fn inner_value(words: &Words, n: usize) -> Compared {
-    let Some(penalty) = penalty_at(words, 1) else {
-        return Compared::Bad;
-    };
+fn inner_value(words: &Words, n: usize) -> Result<bool, NoRecord> {
+    let penalty = penalty_at(words, 1).ok_or(NoRecord)?;
     if 64 < words[4] {
-        return Compared::Bad;
+        return Err(NoRecord);
     }
     let count = words[4] as usize;
     if n != count + 6 {
-        return Compared::Bad;
+        return Err(NoRecord);
     }
     let w = weights(words, count);
     let r = inner::value(penalty, &w[..count]);
-    judge(same(r, double(words[count + 5])))
+    Ok(same(r, double(words[count + 5])))
 }
 
 // ---- systems
@@ -126,13 +123,13 @@ fn answers_at(rows: usize) -> usize
 }
 
 // The size is passed on as it is, also where it is refused.
-fn solve(words: &Words, n: usize) -> Compared {
+fn solve(words: &Words, n: usize) -> Result<bool, NoRecord> {
     let size = words[1] as usize;
     let rows = rows_of(size);
     let at = answers_at(rows);
     if n != at + 13 {
-        return Compared::Bad;
+        return Err(NoRecord);
     }
     let answer = helpers::solve_lin_sys(system(words, rows), size);
-    judge(same_solution(answer, words, at))
+    Ok(same_solution(answer, words, at))
 }
