@@ -88,28 +88,38 @@ fn narrow(word: u64) -> u32 {
     (word % 0x1_0000_0000) as u32
 }
 
-// The low 32 bits of each word of a part, and 0 behind them. That the first `p.count` are `p.count` many is said for `&r[..count]`.
-pub fn indices_of(words: &Words, p: Part) -> Indices
-    requires { Within p }
+// The number that each word of a part stands for, and `none` behind them. That the first `p.count` are `p.count` many is said for `&r[..count]`.
+fn numbers_of<T: Copy + Drop, F: Fn(u64) -> T>(
+    words: &Words,
+    p: Part,
+    none: T,
+    number: F,
+) -> [T; 1024]
+    requires within { Within p }
+    requires is_always_callable { F.IsAlwaysCallable number }
     ensures { (p.count ≤ length result) × (p.count ≡ length (take p.count result)) }
 {
-    let mut r = [0u32; 1024];
+    let mut r = [none; 1024];
     for i in 0..p.count {
-        r[i] = narrow(words[p.at + i]);
+        r[i] = number(words[p.at + i]);
     }
     r
 }
 
-// The same with the double of each word.
+// The low 32 bits of each word.
+pub fn indices_of(words: &Words, p: Part) -> Indices
+    requires { Within p }
+    ensures { (p.count ≤ length result) × (p.count ≡ length (take p.count result)) }
+{
+    numbers_of(words, p, 0, |word| narrow(word))
+}
+
+// The double of each word.
 pub fn doubles_of(words: &Words, p: Part) -> Doubles
     requires { Within p }
     ensures { (p.count ≤ length result) × (p.count ≡ length (take p.count result)) }
 {
-    let mut r = [0.0; 1024];
-    for i in 0..p.count {
-        r[i] = double(words[p.at + i]);
-    }
-    r
+    numbers_of(words, p, 0.0, |word| double(word))
 }
 
 // Whether a buffer's first `p.count` places are the doubles of a part.

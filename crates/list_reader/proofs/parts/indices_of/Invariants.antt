@@ -1,6 +1,0 @@
--- `parts::indices_of` is safe: the loop writes within the list, whose length stays. Assumes nothing.
-use Rattle.std.proofs.Common.{◌≡◌, length}
-use Rattle.list_reader.proofs.parts.indices_of.Given as goal
-
-abbrev pub invariant-loop-i : goal.invariant-loop-i
-invariant-loop-i l = 1024 ≡ length l.r
