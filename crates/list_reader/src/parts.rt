@@ -55,23 +55,22 @@ pub fn part_of(at: usize, count: usize) -> Part
     }
 }
 
-// The penalty of three words: kind, alpha and a second number. None where the kind is unknown.
-pub fn penalty_at(words: &Words, at: usize) -> Option<Penalty>
+// The penalty of three words: kind, alpha and a second number. A kind that is neither 0 nor 1 is MCP.
+pub fn penalty_at(words: &Words, at: usize) -> Penalty
     requires { at + 3 ≤ 1024 }
 {
     let alpha = double(words[at + 1]);
     let second = double(words[at + 2]);
     match words[at] {
-        0 => Some(Penalty::L1 { alpha }),
-        1 => Some(Penalty::L1PlusL2 {
+        0 => Penalty::L1 { alpha },
+        1 => Penalty::L1PlusL2 {
             alpha,
             l1_ratio: second,
-        }),
-        2 => Some(Penalty::MCP {
+        },
+        _ => Penalty::MCP {
             alpha,
             gamma: second,
-        }),
-        _ => None,
+        },
     }
 }
 

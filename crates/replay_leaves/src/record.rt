@@ -22,11 +22,10 @@ pub fn replay(words: &Words, n: usize) -> Result<bool, NoRecord> {
 }
 
 fn inner_violation(words: &Words, n: usize) -> Result<bool, NoRecord> {
-    let penalty = penalty_at(words, 1).ok_or(NoRecord)?;
-    if n != 7 {
+    if n != 7 || 2 < words[1] {
         return Err(NoRecord);
     }
-    let r = inner::violation(penalty, double(words[4]), double(words[5]));
+    let r = inner::violation(penalty_at(words, 1), double(words[4]), double(words[5]));
     Ok(same(r, double(words[6])))
 }
 
@@ -45,8 +44,7 @@ fn weights(words: &Words, count: usize) -> [f64; 64]
 }
 
 fn inner_value(words: &Words, n: usize) -> Result<bool, NoRecord> {
-    let penalty = penalty_at(words, 1).ok_or(NoRecord)?;
-    if 64 < words[4] {
+    if 64 < words[4] || 2 < words[1] {
         return Err(NoRecord);
     }
     let count = words[4] as usize;
@@ -54,7 +52,7 @@ fn inner_value(words: &Words, n: usize) -> Result<bool, NoRecord> {
         return Err(NoRecord);
     }
     let w = weights(words, count);
-    let r = inner::value(penalty, &w[..count]);
+    let r = inner::value(penalty_at(words, 1), &w[..count]);
     Ok(same(r, double(words[count + 5])))
 }
 
