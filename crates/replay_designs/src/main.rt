@@ -2,6 +2,7 @@
 #![tactic(auto)]
 
 mod arrays;
+mod asked;
 mod record;
 
 use list_reader::list;
