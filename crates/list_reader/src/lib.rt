@@ -82,13 +82,13 @@ fn commented(r: Reader) -> Reader
     }
 }
 
-// What a hex digit counts, and 16 for any other byte.
-fn digit(byte: u8) -> u8 {
+// What a hex digit counts, or none for any other byte.
+fn digit(byte: u8) -> Option<u8> {
     match byte {
-        b'0'..=b'9' => byte - b'0',
-        b'a'..=b'f' => byte - b'a' + 10,
-        b'A'..=b'F' => byte - b'A' + 10,
-        _ => 16,
+        b'0'..=b'9' => Some(byte - b'0'),
+        b'a'..=b'f' => Some(byte - b'a' + 10),
+        b'A'..=b'F' => Some(byte - b'A' + 10),
+        _ => None,
     }
 }
 
@@ -96,14 +96,13 @@ fn digit(byte: u8) -> u8 {
 fn with_digit(r: Reader, byte: u8) -> Reader
     ensures { result.count ≡ r.count }
 {
-    let value = digit(byte);
-    if 15 < value || 15 < r.digits {
-        return spoilt(r);
-    }
-    Reader {
-        word: r.word << 4 | value as u64,
-        digits: r.digits + 1,
-        ..r
+    match digit(byte) {
+        Some(value) if r.digits < 16 => Reader {
+            word: r.word << 4 | value as u64,
+            digits: r.digits + 1,
+            ..r
+        },
+        _ => spoilt(r),
     }
 }
 
