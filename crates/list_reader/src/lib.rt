@@ -27,15 +27,23 @@ pub fn same(a: f64, b: f64) -> bool
     }
 }
 
-// A line as far as it was read: the word begun and how many digits it has, how many words were stored, and whether the line is a comment or
-// has a fault, after either of which only its end counts.
+// What a line is as far as it was read.
+#[derive(Clone, Copy, Drop)]
+pub enum Line {
+    Words,
+    // Only the line's end counts, here and below.
+    Comment,
+    // The line has a fault.
+    Bad,
+}
+
+// A line as far as it was read: the word begun and how many digits it has, how many words were stored, and what the line is.
 #[derive(Clone, Copy, Drop)]
 pub struct Reader {
     pub word: u64,
     pub digits: u32,
     pub count: usize,
-    pub comment: bool,
-    pub bad: bool,
+    pub line: Line,
 }
 
 // What a byte led to.
@@ -57,8 +65,7 @@ pub fn start() -> Reader
         word: 0,
         digits: 0,
         count: 0,
-        comment: false,
-        bad: false,
+        line: Line::Words,
     }
 }
 
@@ -67,7 +74,7 @@ fn spoilt(r: Reader) -> Reader
 {
     Reader {
         count: r.count,
-        bad: true,
+        line: Line::Bad,
         ..start()
     }
 }
@@ -77,7 +84,7 @@ fn commented(r: Reader) -> Reader
 {
     Reader {
         count: r.count,
-        comment: true,
+        line: Line::Comment,
         ..start()
     }
 }
@@ -131,12 +138,10 @@ fn ended(r: Reader, words: &mut [u64]) -> Fed
     ensures { r.count ≤ length words.old → count_of result ≤ length words.old }
 {
     let last = with_word(r, words);
-    if last.bad {
-        Fed::Bad
-    } else if last.count == 0 {
-        Fed::More(start())
-    } else {
-        Fed::Record(last.count)
+    match last.line {
+        Line::Bad => Fed::Bad,
+        _ if last.count == 0 => Fed::More(start()),
+        _ => Fed::Record(last.count),
     }
 }
 
@@ -147,7 +152,7 @@ pub fn feed(r: Reader, byte: u8, words: &mut [u64]) -> Fed
     if byte == b'\n' {
         return ended(r, words);
     }
-    if r.comment || r.bad {
+    if !matches!(r.line, Line::Words) {
         return Fed::More(r);
     }
     if byte == b' ' || byte == b'\r' {
