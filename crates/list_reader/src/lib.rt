@@ -27,15 +27,23 @@ pub fn same(a: f64, b: f64) -> bool
     }
 }
 
-// A line as far as it was read: the word begun and how many digits it has, how many words were stored, and whether the line is a comment or
-// has a fault, after either of which only its end counts.
+// What a line is as far as it was read.
+#[derive(Clone, Copy, Drop)]
+pub enum Line {
+    Words,
+    // Only the line's end counts, here and below.
+    Comment,
+    // The line has a fault.
+    Bad,
+}
+
+// A line as far as it was read: the word begun and how many digits it has, how many words were stored, and what the line is.
 #[derive(Clone, Copy, Drop)]
 pub struct Reader {
     pub word: u64,
     pub digits: u32,
     pub count: usize,
-    pub comment: bool,
-    pub bad: bool,
+    pub line: Line,
 }
 
 // What a byte led to.
@@ -57,8 +65,7 @@ pub fn start() -> Reader
         word: 0,
         digits: 0,
         count: 0,
-        comment: false,
-        bad: false,
+        line: Line::Words,
     }
 }
 
@@ -67,7 +74,7 @@ fn spoilt(r: Reader) -> Reader
 {
     Reader {
         count: r.count,
-        bad: true,
+        line: Line::Bad,
         ..start()
     }
 }
@@ -77,18 +84,18 @@ fn commented(r: Reader) -> Reader
 {
     Reader {
         count: r.count,
-        comment: true,
+        line: Line::Comment,
         ..start()
     }
 }
 
-// What a hex digit counts, and 16 for any other byte.
-fn digit(byte: u8) -> u8 {
+// What a hex digit counts, or none for any other byte.
+fn digit(byte: u8) -> Option<u8> {
     match byte {
-        b'0'..=b'9' => byte - b'0',
-        b'a'..=b'f' => byte - b'a' + 10,
-        b'A'..=b'F' => byte - b'A' + 10,
-        _ => 16,
+        b'0'..=b'9' => Some(byte - b'0'),
+        b'a'..=b'f' => Some(byte - b'a' + 10),
+        b'A'..=b'F' => Some(byte - b'A' + 10),
+        _ => None,
     }
 }
 
@@ -96,14 +103,13 @@ fn digit(byte: u8) -> u8 {
 fn with_digit(r: Reader, byte: u8) -> Reader
     ensures { result.count ≡ r.count }
 {
-    let value = digit(byte);
-    if 15 < value || 15 < r.digits {
-        return spoilt(r);
-    }
-    Reader {
-        word: r.word << 4 | value as u64,
-        digits: r.digits + 1,
-        ..r
+    match digit(byte) {
+        Some(value) if r.digits < 16 => Reader {
+            word: r.word << 4 | value as u64,
+            digits: r.digits + 1,
+            ..r
+        },
+        _ => spoilt(r),
     }
 }
 
@@ -132,12 +138,10 @@ fn ended(r: Reader, words: &mut [u64]) -> Fed
     ensures { r.count ≤ length words.old → count_of result ≤ length words.old }
 {
     let last = with_word(r, words);
-    if last.bad {
-        Fed::Bad
-    } else if last.count == 0 {
-        Fed::More(start())
-    } else {
-        Fed::Record(last.count)
+    match last.line {
+        Line::Bad => Fed::Bad,
+        _ if last.count == 0 => Fed::More(start()),
+        _ => Fed::Record(last.count),
     }
 }
 
@@ -148,7 +152,7 @@ pub fn feed(r: Reader, byte: u8, words: &mut [u64]) -> Fed
     if byte == b'\n' {
         return ended(r, words);
     }
-    if r.comment || r.bad {
+    if !matches!(r.line, Line::Words) {
         return Fed::More(r);
     }
     if byte == b' ' || byte == b'\r' {

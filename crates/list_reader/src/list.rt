@@ -1,4 +1,4 @@
-// Reads a list and hands out one record at a time, over a buffer of bytes that the program lends.
+// Reads a list and replays one record at a time.
 ghost use Rattle.std.specs.Prelude.{◌≡◌, ◌<◌, ◌≤◌};
 ghost use Rattle.list_reader.specs.ProgressWithin.{ProgressWithin};
 
@@ -7,13 +7,33 @@ use crate::{Fed, Words, feed, progress};
 use std::fmt::Display;
 use std::fs::File;
 use std::io::Read;
-use std::rt::Files;
+use std::rt::{Env, Files};
+use std::{env, io};
 
 // The buffer that a list is read into.
-pub type Bytes = [u8; 4096];
+type Bytes = [u8; 4096];
+
+// Replays the list whose name is the program's first argument. `compare` says of a record, the first so many of the words, whether the port answers
+// as it does.
+pub fn replay<
+    R: Files<File = File> + Print + Eprint + Env + Alloc,
+    F: Fn(&Words, usize) -> Result<bool, NoRecord>,
+>(rt: &R, compare: F) -> io::Result<()>
+    requires { (words : _) (n : _) → n ≤ 1024 → F.pre compare words n }
+{
+    let path = env::args(rt)?.nth(1).unwrap_or(String::new(rt.alloc()));
+    let mut bytes = [0u8; 4096];
+    let mut words = [0u64; 1024];
+    let mut p = open(rt, path.as_bytes(), &mut bytes, &mut words);
+    while p.left > 0 {
+        let compared = compare(&words, p.found);
+        p.next(rt, compared, path.as_bytes(), &mut bytes, &mut words);
+    }
+    Ok(())
+}
 
 // Opens the list and reads on to its first record. A list that does not open is over, and standard error says why.
-pub fn open<R: Files<File = File> + Print + Eprint>(
+fn open<R: Files<File = File> + Print + Eprint>(
     rt: &R,
     path: &[u8],
     bytes: &mut Bytes,
@@ -51,7 +71,7 @@ fn fail(rt: &impl Eprint, path: &[u8], why: impl Display + Drop) {
 
 impl Progress {
     // Counts the record that was found, and reads on to the one after it.
-    pub fn next(
+    fn next(
         &mut self,
         rt: &(impl Print + Eprint),
         compared: Result<bool, NoRecord>,

@@ -72,17 +72,23 @@ fn name_wrong(rt: &impl Print, p: &Progress, what: &str) {
 }
 
 impl Progress {
-    // One more record, of which `wrong` are wrong: 1 or 0.
-    fn add_record(&mut self, wrong: u64)
+    // One more record. What is wrong of it is counted apart.
+    fn add_record(&mut self)
         requires { ProgressWithin self.old }
         ensures { ProgressWithin self.new × (self.new.left ≡ self.old.left) }
     {
         self.line = one_more(self.line);
-        self.counts = Tally {
-            cases: one_more(self.counts.cases),
-            differ: std::num::wrapping_add_u64(self.counts.differ, wrong),
-        };
+        self.counts.cases = one_more(self.counts.cases);
         self.found = 0;
+    }
+
+    // Names and counts a record that differs or is bad.
+    fn add_wrong(&mut self, rt: &impl Print, what: &str)
+        requires { ProgressWithin self.old }
+        ensures { ProgressWithin self.new × (self.new.left ≡ self.old.left) }
+    {
+        name_wrong(rt, self, what);
+        self.counts.differ = one_more(self.counts.differ);
     }
 
     // A line ended that was to be a record. `compared` says whether the port answers as the record does.
@@ -91,16 +97,11 @@ impl Progress {
         ensures { ProgressWithin self.new × (self.new.left ≡ self.old.left) }
     {
         match compared {
-            Ok(true) => self.add_record(0),
-            Ok(false) => {
-                name_wrong(rt, self, " differs\n");
-                self.add_record(1);
-            }
-            Err(NoRecord) => {
-                name_wrong(rt, self, " bad\n");
-                self.add_record(1);
-            }
+            Ok(true) => {}
+            Ok(false) => self.add_wrong(rt, " differs\n"),
+            Err(NoRecord) => self.add_wrong(rt, " bad\n"),
         }
+        self.add_record();
     }
 
     // The next byte is looked for in the buffer's first `end` places.

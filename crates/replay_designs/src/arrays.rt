@@ -3,10 +3,11 @@ ghost use Rattle.std.specs.Prelude.{◌≤◌};
 ghost use Rattle.replay_designs.specs.AllWithin.{AllWithin};
 ghost use Rattle.list_reader.specs.Within.{Within};
 
+use crate::asked::Asked;
 use list_reader::Words;
 use list_reader::parts::{Part, part_at};
 
-// All arrays of a record, in their order. One that the code does not have is empty.
+// All arrays of a record, in their order. One that the call does not take is empty.
 #[derive(Clone, Copy, Drop)]
 pub struct Arrays {
     pub starts: Part,
@@ -18,48 +19,52 @@ pub struct Arrays {
     pub lent: Part,
 }
 
-fn part_if(is_there: bool, words: &Words, at: usize) -> Part
+// No array, where the call does not take it: the next part begins where this one would.
+fn none_at(at: usize) -> Part
     requires { at ≤ 1025 }
     ensures { Within result }
 {
-    if is_there {
-        part_at(words, at)
-    } else {
-        Part {
-            at: 0,
-            count: 0,
-            next: at,
-        }
+    Part {
+        at: 0,
+        count: 0,
+        next: at,
     }
 }
 
-// Which codes have which arrays: all but 14 have a first one.
-fn has_second(code: u64) -> bool {
-    matches!(code, 0x11 | 0x12 | 0x13 | 0x15)
-}
-
-fn has_lent(code: u64) -> bool {
-    matches!(code, 0x10 | 0x12 | 0x14 | 0x15 | 0x16)
-}
-
-// Where the arrays begin: behind the code, and behind a design's layout, n and p.
-fn begin(has_design: bool) -> usize
-    ensures { result ≤ 4 }
+// Starts, rows and values of a design, behind the code and the design's layout, n and p.
+fn design_arrays(words: &Words) -> (Part, Part, Part)
+    ensures { Within result.0 × Within result.1 × Within result.2 }
 {
-    if has_design { 4 } else { 1 }
+    let starts = part_at(words, 4);
+    let rows = part_at(words, starts.next);
+    let values = part_at(words, rows.next);
+    (starts, rows, values)
 }
 
-// The arrays of a record. Code 13 alone has no design.
-pub fn arrays_of(words: &Words, code: u64) -> Arrays
+// The arrays of a record, of which the call takes some.
+pub fn arrays_of(words: &Words, asked: Asked) -> Arrays
     ensures { AllWithin result }
 {
-    let has_design = code != 0x13;
-    let starts = part_if(has_design, words, begin(has_design));
-    let rows = part_if(has_design, words, starts.next);
-    let values = part_if(has_design, words, rows.next);
-    let first = part_if(code != 0x14, words, values.next);
-    let second = part_if(has_second(code), words, first.next);
-    let lent = part_if(has_lent(code), words, second.next);
+    let (starts, rows, values) = if asked.has_design() {
+        design_arrays(words)
+    } else {
+        (none_at(1), none_at(1), none_at(1))
+    };
+    let first = if asked.has_first() {
+        part_at(words, values.next)
+    } else {
+        none_at(values.next)
+    };
+    let second = if asked.has_second() {
+        part_at(words, first.next)
+    } else {
+        none_at(first.next)
+    };
+    let lent = if asked.has_lent() {
+        part_at(words, second.next)
+    } else {
+        none_at(second.next)
+    };
     Arrays {
         starts,
         rows,

@@ -1,11 +1,10 @@
 // One record: a code, the inputs of a call and the answers that the oracle had. The first `n` of the words are the record.
-// The codes, in hex: 10 initialize, 11 gradient_j, 12 full_grad, 13 value, 14 update_model_fit, 15 compute_extrapolated_fit, 16 the alpha_max of the
-// layout, 17 check.
 ghost use Rattle.std.specs.Prelude.{◌+◌, ◌≤◌};
 ghost use Rattle.replay_designs.specs.AllWithin.{AllWithin};
 ghost use Rattle.list_reader.specs.Within.{Within};
 
 use crate::arrays::{Arrays, arrays_of};
+use crate::asked::Asked;
 use designs::{Feature, Layout, Matrix, Shape};
 use doubles::{Reason, Refusal, double};
 use list_reader::Words;
@@ -15,10 +14,10 @@ use list_reader::parts::{
 };
 use list_reader::progress::NoRecord;
 
-// A call beside its slices. Where the code has no feature or no difference, these are any words.
+// A call beside its slices. Where it takes no feature or no difference, these are any words.
 #[derive(Drop)]
 struct Call {
-    code: u64,
+    asked: Asked,
     shape: Shape,
     diff: f64,
     j: usize,
@@ -40,63 +39,39 @@ struct PortAnswer {
     lent: Doubles,
 }
 
-// How many words between the arrays and the answers: the feature, and before it the difference.
-fn scalars(code: u64) -> usize
-    ensures { result ≤ 2 }
-{
-    match code {
-        0x11 => 1,
-        0x14 => 2,
-        _ => 0,
-    }
-}
-
-// How many doubles the call answers, beside number and place and what it leaves in the buffer.
-fn doubles_answered(code: u64) -> usize
-    ensures { result ≤ 1 }
-{
-    match code {
-        0x11 | 0x13 | 0x16 => 1,
-        _ => 0,
-    }
-}
-
 // Whether the port answers as the record does.
 pub fn replay(words: &Words, n: usize) -> Result<bool, NoRecord>
     requires { n ≤ 1024 }
 {
-    let code = words[0];
-    if code < 0x10 || 0x17 < code {
+    let asked = Asked::of_code(words[0]).ok_or(NoRecord)?;
+    if asked.has_design() && 1 < words[1] {
         return Err(NoRecord);
     }
-    if code != 0x13 && 1 < words[1] {
-        return Err(NoRecord);
-    }
-    let arrays = arrays_of(words, code);
-    if !indices_fit(words, code, arrays) {
+    let arrays = arrays_of(words, asked);
+    if !indices_fit(words, asked, arrays) {
         return Err(NoRecord);
     }
     let lent = arrays.lent;
-    let at = lent.next + scalars(code);
-    if n != at + 2 + doubles_answered(code) + lent.count {
+    let at = lent.next + asked.scalars();
+    if n != at + 2 + asked.doubles_answered() + lent.count {
         return Err(NoRecord);
     }
-    let answers = answers_of(words, n, code, at, lent.count);
-    let call = call_of(words, code, lent.next);
+    let answers = answers_of(words, n, asked, at, lent.count);
+    let call = call_of(words, asked, lent.next);
     Ok(agrees(words, call, arrays, answers))
 }
 
-// Starts, rows and the features of code 15 are numbers of 32 bits.
-fn indices_fit(words: &Words, code: u64, arrays: Arrays) -> bool
+// Starts, rows and the features of a first array are numbers of 32 bits.
+fn indices_fit(words: &Words, asked: Asked, arrays: Arrays) -> bool
     requires { AllWithin arrays }
 {
     all_narrow(words, arrays.starts)
         && all_narrow(words, arrays.rows)
-        && (code != 0x15 || all_narrow(words, arrays.first))
+        && (!asked.has_features() || all_narrow(words, arrays.first))
 }
 
 // The feature and the difference stand from word `at` on.
-fn call_of(words: &Words, code: u64, at: usize) -> Call
+fn call_of(words: &Words, asked: Asked, at: usize) -> Call
     requires { at + 2 ≤ 1024 }
 {
     let layout = if words[1] == 0 {
@@ -109,13 +84,12 @@ fn call_of(words: &Words, code: u64, at: usize) -> Call
         n: words[2] as usize,
         p: words[3] as usize,
     };
-    let j = if code == 0x14 {
-        words[at + 1]
-    } else {
-        words[at]
+    let j = match asked {
+        Asked::UpdateModelFit => words[at + 1],
+        _ => words[at],
     };
     Call {
-        code,
+        asked,
         shape,
         diff: double(words[at]),
         j: j as usize,
@@ -123,12 +97,12 @@ fn call_of(words: &Words, code: u64, at: usize) -> Call
 }
 
 // The record ends with the buffer's `count` places; the answers begin at word `at`.
-fn answers_of(words: &Words, n: usize, code: u64, at: usize, count: usize) -> Answers
+fn answers_of(words: &Words, n: usize, asked: Asked, at: usize, count: usize) -> Answers
     requires { (at + 2 + count ≤ n) × (n ≤ 1024) }
     ensures { Within result.lent }
 {
     let lent_at = n - count;
-    let answer = if doubles_answered(code) == 1 {
+    let answer = if asked.doubles_answered() == 1 {
         words[lent_at - 1]
     } else {
         0
@@ -178,7 +152,7 @@ fn port_answer(words: &Words, call: Call, arrays: Arrays) -> PortAnswer
     PortAnswer { answer, lent }
 }
 
-// The code's call. `features` is the first array as indices, which code 15 alone has.
+// Asks for the call. `features` is the first array as indices, which `compute_extrapolated_fit` alone takes.
 fn ask(
     call: Call,
     x: &Matrix<'_>,
@@ -188,15 +162,17 @@ fn ask(
     lent: &mut [f64],
 ) -> Result<f64, Refusal> {
     let j = Feature(call.j);
-    match call.code {
-        0x10 => number(datafits::initialize(x, first, lent)),
-        0x11 => datafits::gradient_j(x, first, second, j),
-        0x12 => number(datafits::full_grad(x, first, second, lent)),
-        0x13 => datafits::value(first, second),
-        0x14 => number(datafits::update_model_fit(x, lent, call.diff, j)),
-        0x15 => number(datafits::compute_extrapolated_fit(x, features, second, lent)),
-        0x16 => alpha_max(x, first, lent),
-        _ => number(designs::check(x, first)),
+    match call.asked {
+        Asked::Initialize => number(datafits::initialize(x, first, lent)),
+        Asked::GradientJ => datafits::gradient_j(x, first, second, j),
+        Asked::FullGrad => number(datafits::full_grad(x, first, second, lent)),
+        Asked::Value => datafits::value(first, second),
+        Asked::UpdateModelFit => number(datafits::update_model_fit(x, lent, call.diff, j)),
+        Asked::ComputeExtrapolatedFit => number(datafits::compute_extrapolated_fit(
+            x, features, second, lent,
+        )),
+        Asked::AlphaMax => alpha_max(x, first, lent),
+        Asked::Check => number(designs::check(x, first)),
     }
 }
 

@@ -1,9 +1,0 @@
--- `replay_designs::main` is safe and ends: what is kept holds at each record, and each record leaves fewer turns. Assumes nothing.
-use Rattle.list_reader.specs.ProgressWithin.{ProgressWithin}
-use Rattle.replay_designs.proofs.main.Given as goal
-
-abbrev pub invariant-loop-p : goal.invariant-loop-p
-invariant-loop-p l = ProgressWithin l.p
-
-abbrev pub decreases-loop-p : goal.decreases-loop-p
-decreases-loop-p l = l.p.left
