@@ -11,7 +11,7 @@ use std::rt::{Env, Files};
 use std::{env, io};
 
 // The buffer that a list is read into.
-type Bytes = [u8; 4096];
+pub type Bytes = [u8; 4096];
 
 // Replays the list whose name is the program's first argument. `compare` says of a record, the first so many of the words, whether the port answers
 // as it does.
@@ -33,7 +33,7 @@ pub fn replay<
 }
 
 // Opens the list and reads on to its first record. A list that does not open is over, and standard error says why.
-fn open<R: Files<File = File> + Print + Eprint>(
+pub fn open<R: Files<File = File> + Print + Eprint>(
     rt: &R,
     path: &[u8],
     bytes: &mut Bytes,
@@ -71,7 +71,7 @@ fn fail(rt: &impl Eprint, path: &[u8], why: impl Display + Drop) {
 
 impl Progress {
     // Counts the record that was found, and reads on to the one after it.
-    fn next(
+    pub fn next(
         &mut self,
         rt: &(impl Print + Eprint),
         compared: Result<bool, NoRecord>,
