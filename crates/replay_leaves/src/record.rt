@@ -4,7 +4,7 @@ ghost use Rattle.std.specs.Prelude.{◌≡◌, ◌+◌, ◌≤◌, length, take}
 
 use doubles::double;
 use elimination::helpers;
-use elimination::helpers::Unsolved;
+use elimination::helpers::{NoSolution, Unsolved};
 use list_reader::outcomes::same_refusal;
 use list_reader::parts::penalty_at;
 use list_reader::progress::NoRecord;
@@ -90,19 +90,28 @@ fn same_places(z: [f64; 10], words: &Words, at: usize) -> bool
         .all(|(x, word)| same(*x, double(*word)))
 }
 
-// The answers from word `at` on: number, place, singular and the ten places, which are +0 where there is no solution.
-fn same_solution(answer: Result<[f64; 10], Unsolved>, words: &Words, at: usize) -> bool
+// The answers from word `at` on: number, place, singular and the ten places.
+fn same_solution(answer: Result<[f64; 10], NoSolution>, words: &Words, at: usize) -> bool
     requires { at + 13 ≤ 1024 }
 {
     let number = words[at];
     let place = words[at + 1];
     let singular = words[at + 2];
-    let ended = match answer {
-        Ok(_) => number == 0 && place == 0 && singular == 0,
-        Err(Unsolved::Refused(refusal)) => same_refusal(refusal, number, place) && singular == 0,
-        Err(Unsolved::Singular) => number == 0 && place == 0 && singular == 1,
-    };
-    ended && same_places(answer.unwrap_or([0.0; 10]), words, at + 3)
+    match answer {
+        Ok(z) => number == 0 && place == 0 && singular == 0 && same_places(z, words, at + 3),
+        Err(unsolved) => {
+            let z = unsolved.z;
+            same_ending(unsolved.why, number, place, singular) && same_places(z, words, at + 3)
+        }
+    }
+}
+
+// Whether these say why there is no solution.
+fn same_ending(why: Unsolved, number: u64, place: u64, singular: u64) -> bool {
+    match why {
+        Unsolved::Refused(refusal) => same_refusal(refusal, number, place) && singular == 0,
+        Unsolved::Singular => number == 0 && place == 0 && singular == 1,
+    }
 }
 
 // How many rows a record has. A size outside 1 to 10 comes with none.

@@ -7,7 +7,7 @@ use Rattle.elimination.proofs.helpers.solve_lin_sys.Goals.{then-size-lt1-via-the
 
 pub returns-then-size-lt1 : goal.returns-then-size-lt1
 unfolding solve_call ◌or◌
-returns-then-size-lt1 c = rw c.at.ensures (elim c.then-size-lt1.branch [
+returns-then-size-lt1 c = rw (c.over_zeros.ensures.0, c.over_zeros.ensures.1, c.at.ensures) (elim c.then-size-lt1.branch [
   | then-size-lt1-via-then-size-lt1 w ↦ rw (lt-ltb _ _ w.if-size-lt1.true)
   | then-size-lt1-via-else-size-lt1+then-size-gt10 w ↦ rw (le-ltb _ _ w.if-size-lt1.false, lt-ltb _ _ w.if-size-gt10.true)
 ])
@@ -16,7 +16,8 @@ pub returns-then-not-is_regular : goal.returns-then-not-is_regular
 unfolding solve_call solution ◌or◌
 returns-then-not-is_regular c =
     let regular = rw (c.eliminate.ensures.1, c.eliminate.ensures.0) at c.is_regular.ensures in
-    rw (le-ltb _ _ c.if-size-lt1.false, le-ltb _ _ c.if-size-gt10.false, ← regular, c.if-not-is_regular.true)
+    let zeros = c.over_zeros-then-not-is_regular.ensures in
+    rw (zeros.0, zeros.1, le-ltb _ _ c.if-size-lt1.false, le-ltb _ _ c.if-size-gt10.false, ← regular, c.if-not-is_regular.true)
 
 pub returns : goal.returns
 unfolding solve_call solution ◌or◌
