@@ -83,14 +83,14 @@ pub struct Stored {
     pub many: usize,
 }
 
-pub fn stored_of(x: &Tested<'_>, feature: Feature) -> Stored
-    requires { (x.now.matrix.shape.layout ≡ Csc) × (feature.0 < x.now.matrix.shape.p) }
-    ensures { let starts = x.now.matrix.starts.now in
-        (result.start ≡ get_or starts feature.0 0) × (result.many ≡ get_or starts (feature.0 + 1) 0 - get_or starts feature.0 0) }
+pub fn stored_of(starts: &[u32], feature: Feature) -> Stored
+    requires { (feature.0 + 1 < length starts.now) × (get_or starts.now feature.0 0 ≤ get_or starts.now (feature.0 + 1) 0) }
+    ensures { (result.start ≡ get_or starts.now feature.0 0)
+        × (result.many ≡ get_or starts.now (feature.0 + 1) 0 - get_or starts.now feature.0 0) }
 {
     let j = feature.0;
-    let start = x.matrix.starts[j] as usize;
-    let end = x.matrix.starts[j + 1] as usize;
+    let start = starts[j] as usize;
+    let end = starts[j + 1] as usize;
     Stored {
         start,
         many: end - start,
@@ -115,7 +115,7 @@ fn csc_dot(x: &Tested<'_>, feature: Feature, v: &[f64]) -> f64
     ensures { result ≡ def.dot (def.of_matrix x.now.matrix) feature.0 v.now }
 {
     let Matrix { rows, values, .. } = x.matrix;
-    let Stored { start, many } = stored_of(x, feature);
+    let Stored { start, many } = stored_of(x.matrix.starts, feature);
     let mut s = 0.0;
     for e in start..start + many {
         s += values[e] * reading(v, sample_of(rows, e));
@@ -150,7 +150,7 @@ fn csc_update(x: &Tested<'_>, feature: Feature, d: f64, fit: &mut [f64])
     ensures { fit.new ≡ def.moved (def.of_matrix x.now.matrix) feature.0 d fit.old }
 {
     let Matrix { rows, values, .. } = x.matrix;
-    let Stored { start, many } = stored_of(x, feature);
+    let Stored { start, many } = stored_of(x.matrix.starts, feature);
     for e in start..start + many {
         let sample = sample_of(rows, e);
         set_reading(fit, sample, reading(fit, sample) + d * values[e]);
@@ -174,7 +174,7 @@ fn csc_finite(x: &Tested<'_>, feature: Feature, fit: &[f64]) -> bool
     requires { (x.now.matrix.shape.layout ≡ Csc) × (feature.0 < x.now.matrix.shape.p) × (x.now.matrix.shape.n ≤ length fit.now) }
     ensures { result ≡ def.finite_at (def.of_matrix x.now.matrix) feature.0 fit.now }
 {
-    let Stored { start, many } = stored_of(x, feature);
+    let Stored { start, many } = stored_of(x.matrix.starts, feature);
     for e in start..start + many {
         if !is_finite(reading(fit, sample_of(x.matrix.rows, e))) {
             return false;
@@ -210,8 +210,8 @@ fn row_fit(values: &[f64], base: usize, ws: &[u32], w: &[f64]) -> f64
 {
     let mut s = 0.0;
     for j in ws {
-        let j = *j as usize;
-        s += w[j] * values[base + j];
+        let feature = Feature(*j as usize);
+        s += weight(w, feature) * values[base + feature.0];
     }
     s
 }

@@ -119,7 +119,7 @@ fn csc_square(x: &Tested<'_>, feature: Feature) -> f64
     requires { (x.now.matrix.shape.layout ≡ Csc) × (feature.0 < x.now.matrix.shape.p) }
     ensures { result ≡ def.squares (def.of_matrix x.now.matrix) feature.0 }
 {
-    let Stored { start, many } = stored_of(x, feature);
+    let Stored { start, many } = stored_of(x.matrix.starts, feature);
     let mut s = 0.0;
     for value in &x.matrix.values[start..start + many] {
         s += *value * *value;
