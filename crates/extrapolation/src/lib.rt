@@ -76,6 +76,16 @@ fn is_better(step: &Step<'_>, w: &[f64], fit: &[f64], before: f64) -> bool
     objective(step, w, fit) < before && all_finite(w) && all_finite(fit)
 }
 
+// The places of one slice become those of another. The library's own copy would have the compiled library ask its linker for `memmove`.
+fn copy(from: &[f64], to: &mut [f64])
+    requires { length to.old ≡ length from.now }
+    ensures { to.new ≡ from.now }
+{
+    for (i, x) in to.iter_mut().enumerate() {
+        *x = from[i];
+    }
+}
+
 // ---- the step
 
 // Where the parts of the scratch begin that the extrapolation uses: behind the violations come K+1 rows of p places, K rows that stay
@@ -121,7 +131,7 @@ fn make_candidate(step: &Step<'_>, c: [f64; 10], ws: &[u32], w: &mut [f64], scra
         p: step.x.matrix.shape.p,
     };
     let at = lay_out(step);
-    scratch[at.old..at.fit].copy_from_slice(w);
+    copy(w, &mut scratch[at.old..at.fit]);
     write_candidate(&scratch[at.kept..at.until], kept, c, ws, w);
     extrapolated_fit(&step.x, ws, w, &mut scratch[at.fit..at.end]);
 }
@@ -142,10 +152,10 @@ fn choose(
         ≡ places.chosen_by step.now.penalty step.now.y.now before candidate (places.point_with old.now fit.old) }
 {
     if is_better(step, w, new, before) {
-        fit.copy_from_slice(new);
+        copy(new, fit);
         1
     } else {
-        w.copy_from_slice(old);
+        copy(old, w);
         0
     }
 }

@@ -8,7 +8,7 @@ returns-then-is_better c =
     rw (
       ← c.is_better.ensures,
       c.if-is_better.true,
-      c.copy_from_slice.ensures.after,
+      c.copy.ensures,
     )
 
 pub returns-else-is_better : goal.returns-else-is_better
@@ -17,5 +17,5 @@ returns-else-is_better c =
     rw (
       ← c.is_better.ensures,
       c.if-is_better.false,
-      c.copy_from_slice-else-is_better.ensures.after,
+      c.copy-else-is_better.ensures,
     )

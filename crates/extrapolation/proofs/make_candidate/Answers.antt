@@ -20,7 +20,7 @@ returns c =
     made c.args.step.now _ _ _ _ _ _ _ _ _ _ _ _
     c.requires
     c.lay_out-at.ensures
-    c.copy_from_slice.ensures.after
+    c.copy.ensures
     c.write_candidate.ensures
     c.extrapolated_fit.ensures
     c.extrapolated_fit.auto.fit
