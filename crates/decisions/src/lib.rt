@@ -29,6 +29,7 @@ fn depth_in_range(settings: Settings) -> bool
     !settings.extrapolate || 1 <= settings.depth && settings.depth <= 10
 }
 
+#[tactic(auto, using(crate::proofs::Start::start_legal_above, crate::proofs::Start::start_legal_zero))]
 fn start_in_range(settings: Settings) -> bool
     ensures { result ≡ call.start_legal settings }
 {

@@ -66,6 +66,7 @@ impl From<NotFinite> for Refusal {
 }
 
 // |x|.
+#[tactic(auto, using(crate::proofs::Library::abs_same))]
 pub fn abs(x: f64) -> f64
     ensures { result ≡ num.abs x }
 {
@@ -73,6 +74,7 @@ pub fn abs(x: f64) -> f64
 }
 
 // Rust's f64::signum.
+#[tactic(auto, using(crate::proofs::Library::signum_same))]
 pub fn signum(x: f64) -> f64
     ensures { result ≡ num.signum x }
 {
@@ -80,6 +82,7 @@ pub fn signum(x: f64) -> f64
 }
 
 // Neither NaN nor infinite.
+#[tactic(auto, using(crate::proofs::Library::finite_same))]
 pub fn is_finite(x: f64) -> bool
     ensures { result ≡ num.finite x }
 {

@@ -1,5 +1,6 @@
 -- `first_usable`: the invariant is that none was usable so far. Assumes nothing.
 use mathlib.Core.Path.{sym, ap, ◌∙◌}
+use native.Mathlib.Omega.{arith}
 use Rattle.definition.specs.Inner.Problem.{given_in}
 use Rattle.definition.specs.Call.{scratch_room}
 use Rattle.walks.specs.Inner.Fits.{usable_of}
@@ -17,7 +18,7 @@ invariant_of-with_alpha c =
       narrow = P.narrow;
       targets = P.targets;
       numbers = P.numbers;
-      legal = rw c.at_alpha.ensures (legal-each P.settings P.legal _ c.requires.2 _ c.loop-k-test.true);
+      legal = rw c.at_alpha.ensures (legal-each P.settings P.legal _ c.requires.2 _ (omega (arith, c.loop-k-test.true)));
     }
 
 pub try_fit-requires : goal.try_fit-requires
